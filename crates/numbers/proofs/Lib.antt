@@ -1,0 +1,4 @@
+-- Laws on floats that belong to no one function: tests for a NaN, upper bounds through the operations, and exact whole numbers.
+pub mod Bounds
+pub mod Nan
+pub mod Wholes

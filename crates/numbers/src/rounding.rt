@@ -1,0 +1,86 @@
+// Floats to whole numbers: to the nearest with ties to the even one, and cut toward zero.
+use super::bits::Parts;
+use super::bits::split;
+ghost use mathlib.Core.Path.{_≡_};
+ghost use Prim.Native.Nat.{min, _*_, _≤_, _<_, _^_};
+ghost use lib.Ieee as Ieee;
+ghost use lib.Ieee.Nearest.{closest};
+ghost use Rattle.numbers.specs.Rounding.{roundTiesEvenI32, saturated};
+
+// The whole number nearest to significand / 2 ^ shift, the even one of two that are as near.
+fn shift_ties_even(significand: u64, shift: u64) -> u64
+    requires { ⌜ significand < 2 ^ 53 ⌝ }
+    ensures { λ r. ⌜ r ≡ closest significand (2 ^ shift) ⌝ }
+{
+    if shift >= 54 {
+        return 0;
+    }
+    let unit = 1u64 << shift;
+    let q = significand >> shift;
+    let rest = significand & (unit - 1);
+    if rest * 2 < unit {
+        return q;
+    }
+    if unit < rest * 2 {
+        return q + 1;
+    }
+    q + q % 2
+}
+
+// The whole number nearest to significand * 2 ^ exponent / 2 ^ 1074, at most 2 ^ 31: more makes no difference to an i32.
+fn magnitude(significand: u64, exponent: u64) -> u64
+    requires { ⌜ (significand < 2 ^ 53) × (0 < exponent → 2 ^ 52 ≤ significand) ⌝ }
+    ensures { λ r. ⌜ r ≡ min (closest (significand * 2 ^ exponent) (2 ^ 1074)) (2 ^ 31) ⌝ }
+{
+    if exponent >= 1074 {
+        return 2147483648;
+    }
+    let n = shift_ties_even(significand, 1074 - exponent);
+    if n > 2147483648 { 2147483648 } else { n }
+}
+
+fn saturate_i32(negative: bool, n: u64) -> i32
+    ensures { λ r. ⌜ r ≡ saturated negative n ⌝ }
+{
+    if negative {
+        if n >= 2147483648 {
+            return -2147483648;
+        }
+        return -(n as i32);
+    }
+    if n >= 2147483648 {
+        return 2147483647;
+    }
+    n as i32
+}
+
+// Rust's `x.round_ties_even() as i32`.
+pub fn round_ties_even_i32(x: f64) -> i32
+    ensures { λ r. ⌜ r ≡ roundTiesEvenI32 x ⌝ }
+{
+    let parts = split(x);
+    match parts {
+        Parts::NotANumber => 0,
+        Parts::Infinite { negative } => saturate_i32(negative, 2147483648),
+        Parts::Finite {
+            negative,
+            significand,
+            exponent,
+        } => saturate_i32(negative, magnitude(significand, exponent)),
+    }
+}
+
+// Rust's `x as i32` for an x that is not negative, and 0 for any other: x without its fraction, at most 2 ^ 31 - 1.
+pub fn cut(x: f64) -> u64
+    ensures { λ r. ⌜ (r ≡ Ieee.toUnsigned 31 x) × (r < 2 ^ 31) ⌝ }
+{
+    if x > -1.0 {
+        if x < 2147483648.0 {
+            std::num::truncating_f64_to_u64(x)
+        } else {
+            2147483647
+        }
+    } else {
+        0
+    }
+}

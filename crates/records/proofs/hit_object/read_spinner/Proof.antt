@@ -1,0 +1,58 @@
+-- Each return is what the definition computes from the tests and fields on the way.
+use mathlib.Core.Path.{sym}
+use borrow.Author.Tests.{lt-ltb, le-ltb}
+use Rattle.records.specs.Refusals.{_>>=_, _>>_, refuse_when_}
+use Rattle.records.specs.Records.{spinnerOf}
+use Rattle.records.proofs.Laws.{so}
+use borrow.Author.Needs.{needs}
+use Rattle.records.proofs.hit_object.read_spinner.Statement.{statement}
+use Rattle.records.proofs.hit_object.read_spinner.Tie as tie
+
+returns : tie.Need-returns
+unfolding spinnerOf _>>=_ _>>_ refuse_when_
+returns c = simp (lt-ltb _ _ (c .if1 .taken))
+
+time-at-requires : tie.Need-time-at-requires
+time-at-requires c κs = search needs
+
+enum-known-start-time : tie.Need-enum-known-start-time
+enum-known-start-time c = search needs
+
+enum-told : tie.Need-enum-told
+enum-told c = search needs
+
+returns-2 : tie.Need-returns-2
+unfolding spinnerOf _>>=_ _>>_ refuse_when_
+returns-2 c = simp (le-ltb _ _ (c .before .before .before .if1 .left), so (c .before .before .time-at .ensures) (c .enum-told .given .1))
+
+duration-at-requires : tie.Need-duration-at-requires
+duration-at-requires c κs = search needs
+
+enum-known-duration : tie.Need-enum-known-duration
+enum-known-duration c = search needs
+
+enum-told-2 : tie.Need-enum-told-2
+enum-told-2 c = search needs
+
+returns-3 : tie.Need-returns-3
+unfolding spinnerOf _>>=_ _>>_ refuse_when_
+returns-3 c = simp (le-ltb _ _ (c .before .before .before .before .before .before .before .if1 .left), so (c .before .before .before .before .before .before .time-at .ensures) (c .before .before .before .before .start-time .given .1), so (c .before .before .duration-at .ensures) (c .enum-told2 .given .1))
+
+returns-4 : tie.Need-returns-4
+unfolding spinnerOf _>>=_ _>>_ refuse_when_
+returns-4 c = simp (le-ltb _ _ (c .before .before .before .before .before .before .before .before .if1 .left), so (c .before .before .before .before .before .before .before .time-at .ensures) (c .before .before .before .before .before .start-time .given .1), so (c .before .before .before .duration-at .ensures) (c .before .duration .given .1))
+
+pub read-spinner-spec : {M : Type 1} → statement M
+read-spinner-spec =
+    tie.close
+    (tie.spec
+    returns
+    time-at-requires
+    enum-known-start-time
+    enum-told
+    returns-2
+    duration-at-requires
+    enum-known-duration
+    enum-told-2
+    returns-3
+    returns-4)

@@ -1,0 +1,10 @@
+pub mod Refusals
+pub mod Fields
+pub mod Objects
+pub mod Play
+pub mod Records
+pub mod Order
+pub mod File
+pub mod View
+pub mod Limits
+pub mod Encoding

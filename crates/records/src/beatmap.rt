@@ -1,0 +1,62 @@
+// What stands before the objects of a map: the settings and the breaks.
+use crate::fields;
+use crate::fields::Double;
+use crate::fields::Single;
+use crate::record::Read;
+use crate::record::Record;
+ghost use mathlib.Core.Path.{_≡_};
+ghost use Rattle.records.specs.Records.{readOf, headerOf, breakOf};
+
+pub struct Settings {
+    pub hp: f32,
+    pub od: f32,
+    pub cs: f32,
+}
+
+pub struct BreakPeriod {
+    pub start_time: f64,
+    pub end_time: f64,
+}
+
+impl BreakPeriod {
+    pub const MAX_COUNT: u64 = 128;
+}
+
+pub fn read_header(r: &[u8]) -> Read
+    ensures { λ x. ⌜ x ≡ readOf (headerOf (now (r .entry))) ⌝ }
+{
+    if r.len() < 14 {
+        return Read::Refused(2);
+    }
+    let Single::Is(hp) = fields::setting_at(r, 2) else {
+        return Read::Refused(4);
+    };
+    let Single::Is(od) = fields::setting_at(r, 6) else {
+        return Read::Refused(4);
+    };
+    let Single::Is(cs) = fields::setting_at(r, 10) else {
+        return Read::Refused(4);
+    };
+    Read::Good(Record::Header(Settings { hp, od, cs }), 14)
+}
+
+pub fn read_break(r: &[u8]) -> Read
+    ensures { λ x. ⌜ x ≡ readOf (breakOf (now (r .entry))) ⌝ }
+{
+    if r.len() < 18 {
+        return Read::Refused(2);
+    }
+    let Double::Is(start_time) = fields::time_at(r, 2) else {
+        return Read::Refused(4);
+    };
+    let Double::Is(end_time) = fields::time_at(r, 10) else {
+        return Read::Refused(4);
+    };
+    Read::Good(
+        Record::Break(BreakPeriod {
+            start_time,
+            end_time,
+        }),
+        18,
+    )
+}

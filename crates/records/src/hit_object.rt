@@ -1,0 +1,167 @@
+// The objects of a map: circles, sliders and spinners.
+use crate::fields;
+use crate::fields::Double;
+use crate::record::Read;
+use crate::record::Record;
+use numbers::words::word_at;
+ghost use mathlib.Core.Path.{_≡_};
+ghost use Prim.Native.Nat.{_<_};
+ghost use Rattle.records.specs.Records.{readOf, nestedView, nestedOf, circleOf, sliderOf, spinnerOf, objectOf};
+
+// The marks in ASCII, as little-endian numbers.
+pub const CI: u64 = 0x4943;
+
+pub const SL: u64 = 0x4c53;
+
+pub const SP: u64 = 0x5053;
+
+// The nested items before a slider's tail, counted.
+pub struct Slider {
+    pub repeats: u64,
+    pub ticks: u64,
+}
+
+impl Slider {
+    pub const MAX_NESTED: u64 = 1000;
+}
+
+pub struct Spinner {
+    pub duration: f64,
+}
+
+pub enum HitObjectKind {
+    Circle,
+    Slider(Slider),
+    Spinner(Spinner),
+}
+
+pub struct HitObject {
+    pub start_time: f64,
+    pub kind: HitObjectKind,
+}
+
+impl HitObject {
+    pub const MAX_COUNT: u64 = 8192;
+}
+
+pub enum Nested {
+    Counts(Slider),
+    Wrong,
+}
+
+fn wide(b: u8) -> u64
+    ensures { λ r. ⌜ r ≡ b ⌝ }
+{
+    b as u64
+}
+
+// One test and one counter for an item: before the tail an item is its own count of repeats.
+fn count_nested(items: &[u8]) -> Nested
+    ensures { λ r. ⌜ r ≡ nestedView (nestedOf (now (items .entry))) ⌝ }
+{
+    if items.len() == 0 {
+        return Nested::Wrong;
+    }
+    let last = items.len() - 1;
+    let mut repeats: u64 = 0;
+    let mut i = 0;
+    while i < last {
+        let b = items[i];
+        if 1 < b {
+            return Nested::Wrong;
+        }
+        repeats += wide(b);
+        i += 1;
+    }
+    if items[last] == 2 {
+        return Nested::Counts(Slider {
+            repeats,
+            ticks: (last as u64) - repeats,
+        });
+    }
+    Nested::Wrong
+}
+
+pub fn read_circle(r: &[u8]) -> Read
+    ensures { λ x. ⌜ x ≡ readOf (circleOf (now (r .entry))) ⌝ }
+{
+    if r.len() < 10 {
+        return Read::Refused(2);
+    }
+    let Double::Is(start_time) = fields::time_at(r, 2) else {
+        return Read::Refused(4);
+    };
+    Read::Good(
+        Record::Object(HitObject {
+            start_time,
+            kind: HitObjectKind::Circle,
+        }),
+        10,
+    )
+}
+
+pub fn read_slider(r: &[u8]) -> Read
+    ensures { λ x. ⌜ x ≡ readOf (sliderOf (now (r .entry))) ⌝ }
+{
+    if r.len() < 12 {
+        return Read::Refused(2);
+    }
+    let Double::Is(start_time) = fields::time_at(r, 2) else {
+        return Read::Refused(4);
+    };
+    let count = word_at(r, 10, 2);
+    if Slider::MAX_NESTED < count {
+        return Read::Refused(6);
+    }
+    let end = 12 + count as usize;
+    if r.len() < end {
+        return Read::Refused(2);
+    }
+    let Nested::Counts(slider) = count_nested(&r[12..end]) else {
+        return Read::Refused(5);
+    };
+    Read::Good(
+        Record::Object(HitObject {
+            start_time,
+            kind: HitObjectKind::Slider(slider),
+        }),
+        end,
+    )
+}
+
+pub fn read_spinner(r: &[u8]) -> Read
+    ensures { λ x. ⌜ x ≡ readOf (spinnerOf (now (r .entry))) ⌝ }
+{
+    if r.len() < 18 {
+        return Read::Refused(2);
+    }
+    let Double::Is(start_time) = fields::time_at(r, 2) else {
+        return Read::Refused(4);
+    };
+    let Double::Is(duration) = fields::duration_at(r, 10) else {
+        return Read::Refused(4);
+    };
+    Read::Good(
+        Record::Object(HitObject {
+            start_time,
+            kind: HitObjectKind::Spinner(Spinner { duration }),
+        }),
+        18,
+    )
+}
+
+// The object behind a mark; any other mark is refused as unknown.
+pub fn read_object(r: &[u8], mark: u64) -> Read
+    ensures { λ x. ⌜ x ≡ readOf (objectOf (now (r .entry)) mark) ⌝ }
+{
+    if mark == CI {
+        return read_circle(r);
+    }
+    if mark == SL {
+        return read_slider(r);
+    }
+    if mark == SP {
+        return read_spinner(r);
+    }
+    Read::Refused(3)
+}

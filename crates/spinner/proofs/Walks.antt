@@ -1,0 +1,105 @@
+-- The spinner's walked is two counts. Assumes nothing.
+use mathlib.Core.Path.{_≡_, refl, sym, ap, _∙_, subst}
+use Prim.Native.Nat.{ℕ, zero, suc, _+_, _-_, _*_, _/_, _%_, _^_, _≤_, _<_, min}
+use native.Mathlib.Omega.{arith}
+use mathlib.Core.Bool.{Bool, true, false, not, cond, _&&_}
+use lib.Dec.{T, ltb, eqb, ltb→lt, nltb→le, eqb→eq}
+use borrow.Author.Tests.{eqb-false}
+use Rattle.spinner.specs.Bonus.{isLarge, isSmall, walked, largeCount, smallCount}
+
+-- one more step, by what it adds
+add-large : (l s L S L′ S′ : ℕ) → L′ ≡ L + 1 → S′ ≡ S → l * L + s * S + l ≡ l * L′ + s * S′
+add-large l s L S L′ S′ p q = more l s L S ∙ sym (ap (λ (x : ℕ). l * x + s * S′) p ∙ ap (λ (x : ℕ). l * (L + 1) + s * x) q)
+  where
+    more : (l s L S : ℕ) → l * L + s * S + l ≡ l * (L + 1) + s * S
+    more l s L S = omega arith
+
+add-small : (l s L S L′ S′ : ℕ) → L′ ≡ L → S′ ≡ S + 1 → l * L + s * S + s ≡ l * L′ + s * S′
+add-small l s L S L′ S′ p q = more l s L S ∙ sym (ap (λ (x : ℕ). l * x + s * S′) p ∙ ap (λ (x : ℕ). l * L + s * x) q)
+  where
+    more : (l s L S : ℕ) → l * L + s * S + s ≡ l * L + s * (S + 1)
+    more l s L S = omega arith
+
+add-none : (l s L S L′ S′ : ℕ) → L′ ≡ L → S′ ≡ S → l * L + s * S + 0 ≡ l * L′ + s * S′
+add-none l s L S L′ S′ p q = more l s L S ∙ sym (ap (λ (x : ℕ). l * x + s * S′) p ∙ ap (λ (x : ℕ). l * L + s * x) q)
+  where
+    more : (l s L S : ℕ) → l * L + s * S + 0 ≡ l * L + s * S
+    more l s L S = omega arith
+
+-- a test with what it says either way
+record Says (b : Bool) (Y N : Type 0) : Type 0 where
+  yes : T b → Y
+  no : T (not b) → N
+
+says-lt : (a b : ℕ) → Says (ltb a b) (a < b) (b ≤ a)
+says-lt a b = record { yes = ltb→lt a b; no = nltb→le a b }
+
+says-even : (a : ℕ) → Says (eqb (a % 2) 0) (a % 2 ≡ 0) (a % 2 ≡ 1)
+says-even a = record { yes = eqb→eq (a % 2) 0; no = odd }
+  where
+    odd : T (not (eqb (a % 2) 0)) → a % 2 ≡ 1
+    odd t = let n : a % 2 ≡ 0 → ⊥ = eqb-false (a % 2) 0 (lib.Ieee.Bits.is-false (eqb (a % 2) 0) t) in omega arith
+
+module _ (l s b t : ℕ) where
+  go : (p1 p2 p3 p4 p5 : Bool) → Says p1 (b < suc t) (suc t ≤ b) → Says p2 ((suc t - b) % 2 ≡ 0) ((suc t - b) % 2 ≡ 1) → Says p3 (1 < suc t) (suc t ≤ 1) → Says p4 (suc t % 2 ≡ 0) (suc t % 2 ≡ 1) → Says p5 (b % 2 ≡ 0) (b % 2 ≡ 1)
+      → l * ((t - b) / 2) + s * cond p5 (min t b / 2) (t / 2) + cond (p1 && p2) l (cond (p3 && p4) s 0) ≡ l * ((suc t - b) / 2) + s * cond p5 (min (suc t) b / 2) (suc t / 2)
+  go true true p3 p4 true f1 f2 f3 f4 f5 =
+      let a = f1 .yes tt in let c = f2 .yes tt in let d = f5 .yes tt in add-large l s ((t - b) / 2) (min t b / 2) ((suc t - b) / 2) (min (suc t) b / 2) (omega arith) (omega arith)
+  go true true p3 p4 false f1 f2 f3 f4 f5 =
+      let a = f1 .yes tt in let c = f2 .yes tt in let d = f5 .no tt in add-large l s ((t - b) / 2) (t / 2) ((suc t - b) / 2) (suc t / 2) (omega arith) (omega arith)
+  go true false true true true f1 f2 f3 f4 f5 =
+      let a = f1 .yes tt in let c = f2 .no tt in let d = f5 .yes tt in let e = f4 .yes tt in add-small l s ((t - b) / 2) (min t b / 2) ((suc t - b) / 2) (min (suc t) b / 2) (omega arith) (omega arith)
+  go true false true true false f1 f2 f3 f4 f5 =
+      let a = f1 .yes tt in let c = f2 .no tt in let d = f5 .no tt in let e = f4 .yes tt in add-small l s ((t - b) / 2) (t / 2) ((suc t - b) / 2) (suc t / 2) (omega arith) (omega arith)
+  go true false true false true f1 f2 f3 f4 f5 =
+      let a = f1 .yes tt in let c = f2 .no tt in let d = f5 .yes tt in let e = f4 .no tt in add-none l s ((t - b) / 2) (min t b / 2) ((suc t - b) / 2) (min (suc t) b / 2) (omega arith) (omega arith)
+  go true false true false false f1 f2 f3 f4 f5 =
+      let a = f1 .yes tt in let c = f2 .no tt in let d = f5 .no tt in let e = f4 .no tt in add-none l s ((t - b) / 2) (t / 2) ((suc t - b) / 2) (suc t / 2) (omega arith) (omega arith)
+  go true false false p4 true f1 f2 f3 f4 f5 =
+      let a = f1 .yes tt in let c = f2 .no tt in let d = f5 .yes tt in let e = f3 .no tt in add-none l s ((t - b) / 2) (min t b / 2) ((suc t - b) / 2) (min (suc t) b / 2) (omega arith) (omega arith)
+  go true false false p4 false f1 f2 f3 f4 f5 =
+      let a = f1 .yes tt in let c = f2 .no tt in let d = f5 .no tt in let e = f3 .no tt in add-none l s ((t - b) / 2) (t / 2) ((suc t - b) / 2) (suc t / 2) (omega arith) (omega arith)
+  go false p2 true true true f1 f2 f3 f4 f5 =
+      let a = f1 .no tt in let d = f5 .yes tt in let e = f4 .yes tt in add-small l s ((t - b) / 2) (min t b / 2) ((suc t - b) / 2) (min (suc t) b / 2) (omega arith) (omega arith)
+  go false p2 true true false f1 f2 f3 f4 f5 =
+      let a = f1 .no tt in let d = f5 .no tt in let e = f4 .yes tt in add-small l s ((t - b) / 2) (t / 2) ((suc t - b) / 2) (suc t / 2) (omega arith) (omega arith)
+  go false p2 true false true f1 f2 f3 f4 f5 =
+      let a = f1 .no tt in let d = f5 .yes tt in let e = f4 .no tt in add-none l s ((t - b) / 2) (min t b / 2) ((suc t - b) / 2) (min (suc t) b / 2) (omega arith) (omega arith)
+  go false p2 true false false f1 f2 f3 f4 f5 =
+      let a = f1 .no tt in let d = f5 .no tt in let e = f4 .no tt in add-none l s ((t - b) / 2) (t / 2) ((suc t - b) / 2) (suc t / 2) (omega arith) (omega arith)
+  go false p2 false p4 true f1 f2 f3 f4 f5 =
+      let a = f1 .no tt in let d = f5 .yes tt in let e = f3 .no tt in add-none l s ((t - b) / 2) (min t b / 2) ((suc t - b) / 2) (min (suc t) b / 2) (omega arith) (omega arith)
+  go false p2 false p4 false f1 f2 f3 f4 f5 =
+      let a = f1 .no tt in let d = f5 .no tt in let e = f3 .no tt in add-none l s ((t - b) / 2) (t / 2) ((suc t - b) / 2) (suc t / 2) (omega arith) (omega arith)
+
+  next : l * largeCount b t + s * smallCount b t + cond (isLarge b (suc t)) l (cond (isSmall (suc t)) s 0) ≡ l * largeCount b (suc t) + s * smallCount b (suc t)
+  next =
+      go (ltb b (suc t)) (eqb ((suc t - b) % 2) 0) (ltb 1 (suc t)) (eqb (suc t % 2) 0) (eqb (b % 2) 0) (says-lt b (suc t)) (says-even (suc t - b)) (says-lt 1 (suc t)) (says-even (suc t)) (says-even b)
+
+none : (l s x y : ℕ) → x ≡ 0 → y ≡ 0 → 0 + 0 ≡ l * y + s * x
+none l s x y p q = sym (ap (λ (z : ℕ). l * z + s * x) q ∙ ap (λ (z : ℕ). l * 0 + s * z) p ∙ all l s)
+  where
+    all : (l s : ℕ) → l * 0 + s * 0 ≡ 0
+    all l s = omega arith
+
+first : (l s b : ℕ) → walked l s b 1 ≡ l * largeCount b 0 + s * smallCount b 0
+unfolding walked
+first l s b = start (ltb b 0) (says-lt b 0) (eqb (b % 2) 0)
+  where
+    start : (p : Bool) → Says p (b < 0) (0 ≤ b) → (q : Bool) → 0 + cond (p && eqb ((0 - b) % 2) 0) l 0 ≡ l * ((0 - b) / 2) + s * cond q (min 0 b / 2) 0
+    start true f q = let a = f .yes tt in absurd (omega arith)
+    start false f true = none l s (min 0 b / 2) ((0 - b) / 2) (omega arith) (omega arith)
+    start false f false = none l s 0 ((0 - b) / 2) refl (omega arith)
+
+pub walked-is : (l s b t : ℕ) → walked l s b (suc t) ≡ l * largeCount b t + s * smallCount b t
+unfolding walked
+walked-is l s b zero = first l s b
+walked-is l s b (suc t) = ap (λ (x : ℕ). x + cond (isLarge b (suc t)) l (cond (isSmall (suc t)) s 0)) (walked-is l s b t) ∙ next l s b t
+
+-- the points of the walk to t, from the two counts
+pub points-is : (l s b t L S : ℕ) → L ≡ largeCount b t → S ≡ smallCount b t → L * l + S * s ≡ walked l s b (suc t)
+points-is l s b t L S p q =
+    turn l s L S ∙ ap (λ (x : ℕ). l * x + s * S) p ∙ ap (λ (x : ℕ). l * largeCount b t + s * x) q ∙ sym (walked-is l s b t)
+  where
+    turn : (l s L S : ℕ) → L * l + S * s ≡ l * L + s * S
+    turn l s L S = omega arith

@@ -1,0 +1,33 @@
+-- Document 01, "Spinner": "B = R + 3. For i from 0 to T: if i > B and i - B is even, 1100 legacy and 50 standardised; else if i > 1 and even,
+-- 100 and 10."
+use Prim.Native.Nat.{ℕ, zero, suc, _+_, _-_, _/_, _%_, min}
+use mathlib.Core.Bool.{Bool, cond, _&&_}
+use lib.Dec.{ltb, eqb}
+use lib.Ieee.{Float}
+use Rattle.spinner.specs.HalfSpins.{totalHalfSpins, requiredHalfSpins}
+
+-- the half spin i earns the large bonus
+abbrev pub isLarge : ℕ → ℕ → Bool
+isLarge b i = ltb b i && eqb ((i - b) % 2) 0
+
+-- and else the small one
+abbrev pub isSmall : ℕ → Bool
+isSmall i = ltb 1 i && eqb (i % 2) 0
+
+-- the points of the half spins 0 to n - 1, a large bonus and a small one given
+unfoldable pub walked : ℕ → ℕ → ℕ → ℕ → ℕ
+walked large small b zero = 0
+walked large small b (suc i) = walked large small b i + cond (isLarge b i) large (cond (isSmall i) small 0)
+
+unfoldable pub legacyOf : Float → ℕ
+legacyOf d = walked 1100 100 (requiredHalfSpins d + 3) (suc (totalHalfSpins d))
+
+unfoldable pub standardisedOf : Float → ℕ
+standardisedOf d = walked 50 10 (requiredHalfSpins d + 3) (suc (totalHalfSpins d))
+
+-- how many half spins of the walk to t earn each bonus, in closed form
+abbrev pub largeCount : ℕ → ℕ → ℕ
+largeCount b t = (t - b) / 2
+
+abbrev pub smallCount : ℕ → ℕ → ℕ
+smallCount b t = cond (eqb (b % 2) 0) (min t b / 2) (t / 2)

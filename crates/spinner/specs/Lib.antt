@@ -1,0 +1,2 @@
+pub mod HalfSpins
+pub mod Bonus

@@ -1,0 +1,1 @@
+original!("any_hit_result.rs");

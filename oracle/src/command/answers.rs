@@ -1,0 +1,60 @@
+use std::fs;
+
+use super::worked_example;
+use crate::{
+    encode::encode,
+    frame::write_frame,
+    generate::{objects::Shape, random::Random, shaped, small_file},
+    listing::listing,
+    map::MapFile,
+    reader::read_library,
+};
+
+/// Every so many files a large one of the next of these shapes.
+const LARGE_EVERY: u64 = 100;
+const LARGE: [Shape; 6] = [
+    Shape::Objects(8_192, 8_192),
+    Shape::ComboEdge,
+    Shape::LongNested,
+    Shape::BonusLimit,
+    Shape::Objects(500, 2_000),
+    Shape::Objects(2_000, 8_191),
+];
+
+/// The fixed list: `count` files, each with its listing by the library.
+pub fn answers(seed: u64, count: u64) -> Result<Vec<u8>, String> {
+    let mut list = Vec::new();
+    for index in 0..count {
+        let file = file(seed, index);
+        let read = read_library(&file);
+        if let Err(refusal) = read {
+            return Err(format!(
+                "file {index} of seed {seed} is refused: {refusal:?}"
+            ));
+        }
+        write_frame(&mut list, &file)?;
+        write_frame(&mut list, listing(&read).as_bytes())?;
+    }
+    Ok(list)
+}
+
+fn file(seed: u64, index: u64) -> Vec<u8> {
+    if index == 0 {
+        return worked_example();
+    }
+    encode(&map_of(seed, index))
+}
+
+fn map_of(seed: u64, index: u64) -> MapFile {
+    if index % LARGE_EVERY != LARGE_EVERY / 2 {
+        return small_file(seed, index);
+    }
+    let shape = LARGE[(index / LARGE_EVERY) as usize % LARGE.len()];
+    shaped(&mut Random::new(seed, index), shape)
+}
+
+pub fn write(seed: u64, count: u64, path: &str) -> Result<(), String> {
+    let list = answers(seed, count)?;
+    fs::write(path, &list).map_err(|why| format!("{path}: {why}"))?;
+    super::write_out(format!("{count} files, {} bytes\n", list.len()).as_bytes())
+}

@@ -1,0 +1,89 @@
+use std::fs;
+
+use crate::{
+    map::MapFile,
+    reader::{Refusal, read_library, read_program},
+    recipe::{self, Kind, Row},
+};
+
+fn rows(path: &str) -> Result<Vec<Row>, String> {
+    let text = fs::read_to_string(path).map_err(|why| format!("{path}: {why}"))?;
+    recipe::parse_table(&text).map_err(|why| format!("{path}: {why}"))
+}
+
+/// Writes the table of refusals in its packed form; of the kinds named, or of all.
+pub fn pack(table: &str, packed: &str, kinds: &[&str]) -> Result<(), String> {
+    if let Some(kind) = kinds.iter().find(|kind| !KINDS.contains(kind)) {
+        return Err(format!(
+            "no kind {kind:?}; the kinds are {}",
+            KINDS.join(", ")
+        ));
+    }
+    let mut rows = rows(table)?;
+    rows.retain(|row| kinds.is_empty() || kinds.contains(&name(&row.kind)));
+    fs::write(packed, recipe::pack(&rows)).map_err(|why| format!("{packed}: {why}"))
+}
+
+const KINDS: [&str; 5] = ["program", "file", "build", "edit", "read"];
+
+fn name(kind: &Kind) -> &'static str {
+    match kind {
+        Kind::Program => "program",
+        Kind::File => "file",
+        Kind::Build { .. } => "build",
+        Kind::Edit { .. } => "edit",
+        Kind::Read { .. } => "read",
+    }
+}
+
+/// Compares the reader with each row that needs no board's content.
+pub fn check(table: &str) -> Result<(), String> {
+    let rows = rows(table)?;
+    let mut text = String::new();
+    let (mut agreed, mut differed, mut not_compared) = (0, 0, 0);
+    for row in &rows {
+        let Some((number, offset)) = answer(row) else {
+            not_compared += 1;
+            continue;
+        };
+        if (number, offset) == (row.number, row.offset as usize) {
+            agreed += 1;
+        } else {
+            differed += 1;
+            let Row { name, line, .. } = row;
+            text += &format!(
+                "line {line}, {name}: the table says {} at {}, the reader {number} at {offset}\n",
+                row.number, row.offset,
+            );
+        }
+    }
+    text += &format!(
+        "{agreed} agree, {differed} differ, {not_compared} edits and reads not compared\n"
+    );
+    super::write_out(text.as_bytes())?;
+    if differed > 0 {
+        return Err(format!("{differed} rows differ"));
+    }
+    Ok(())
+}
+
+/// The answer that a row's call should get, 0 at 0 if none is due.
+fn answer(row: &Row) -> Option<(u8, usize)> {
+    let read = match row.kind {
+        Kind::Program => read_program(&row.file),
+        Kind::File | Kind::Build { .. } => read_library(&row.file),
+        Kind::Edit { .. } | Kind::Read { .. } => return None,
+    };
+    Some(match (read, &row.kind) {
+        (Err(Refusal { number, offset }), _) => (number, offset),
+        (Ok(map), &Kind::Build { words, starts }) if !fits(&map, words, starts) => (11, 0),
+        (Ok(_), _) => (0, 0),
+    })
+}
+
+/// Whether a build has room for the map's board and start table.
+fn fits(map: &MapFile, words: u32, starts: u32) -> bool {
+    let count = map.objects.len();
+    let needed = 26 * count.max(1).next_power_of_two();
+    words as usize >= needed && starts as usize >= count
+}

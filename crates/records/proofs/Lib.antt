@@ -6,4 +6,3 @@ pub mod Sizes
 pub mod Room
 pub mod Steps
 pub mod Reading
-pub mod FieldBytes

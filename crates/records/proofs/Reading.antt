@@ -17,6 +17,7 @@ use Rattle.records.specs.File.{File, Result, accepted, refusedAt, counts
 use Rattle.records.specs.View.{countedIn, behind, stepOf, view, freshOf, answerOf}
 use Rattle.records.specs.declared.record.Record.{Record}
 use Rattle.records.specs.declared.file.Reader.{Reader}
+use Rattle.records.specs.declared.file.Step.{Step}
 use Rattle.records.specs.declared.file.Step.the-variants as step
 use Rattle.records.specs.declared.file.Answer.{Answer}
 use Rattle.records.specs.declared.file.Answer.the-variants as answer
@@ -28,7 +29,7 @@ never : {A : Type 0} → _≡_ {A = ℕ} 0 1 → A
 never e = absurd (omega arith)
 
 -- ---- one more element at the end of a list
-length-snoc : {A : Type 0} (l : List A) (x : A) → length (l ++ (x ∷ [])) ≡ length l + 1
+pub length-snoc : {A : Type 0} (l : List A) (x : A) → length (l ++ (x ∷ [])) ≡ length l + 1
 length-snoc l x = length-append l (x ∷ [])
 
 bonus-append : (os ps : List Object) → bonus (os ++ ps) ≡ bonus os + bonus ps
@@ -40,7 +41,7 @@ bonus-alone : (o : Object) → bonus (o ∷ []) ≡ kindBonus (o .kind)
 unfolding bonus
 bonus-alone o = add-zero (kindBonus (o .kind))
 
-bonus-snoc : (os : List Object) (o : Object) → bonus (os ++ (o ∷ [])) ≡ bonus os + kindBonus (o .kind)
+pub bonus-snoc : (os : List Object) (o : Object) → bonus (os ++ (o ∷ [])) ≡ bonus os + kindBonus (o .kind)
 bonus-snoc os o = bonus-append os (o ∷ []) ∙ ap (λ (n : ℕ). bonus os + n) (bonus-alone o)
 
 -- the view goes with the file
@@ -51,24 +52,9 @@ view-with f (break b, n) = rw (length-snoc (f .map .breaks) b)
 view-with f (object o, n) = rw (length-snoc (f .map .objects) o, bonus-snoc (f .map .objects) o) (rw (sym (bonus-kept (object o))))
 view-with f (play p, n) = refl
 
--- ---- the invariant: f was read so far
-pub record Kept (s : List ℕ) (f : File) (reader : Reader) : Type 0 where
-  pub viewed : reader ≡ view f
-  pub fuel : ℕ
-  pub enough : length s - f .at < fuel
-  pub rest : fileFrom fuel s f ≡ fileOf s
-
-pub kept-start : (s : List ℕ) → Kept s fresh freshOf
-unfolding view countsOf bonus fileOf
-kept-start s = record { viewed = refl; fuel = suc (length s); enough = omega arith; rest = refl }
-
--- what the definition finds at the reader's place
+-- what the definition finds behind a file
 abbrev pub foundAt : List ℕ → File → Found
 foundAt s f = recordOf (drop (f .at) s) (countsOf f)
-
-at-view : (s : List ℕ) (f : File) → recordOf (drop (view f .at) s) (view f .counts) ≡ foundAt s f
-unfolding view
-at-view s f = refl
 
 -- one step of the definition
 from-good : (k : ℕ) (s : List ℕ) (f : File) (r : Content × ℕ) → f .at < length s → foundAt s f ≡ good r → fileFrom (suc k) s f ≡ fileFrom k s (with-record f r)
@@ -83,6 +69,75 @@ from-end : (k : ℕ) (s : List ℕ) (f : File) → length s ≤ f .at → fileFr
 unfolding fileFrom
 from-end k s f h = simp (le-ltb _ _ h)
 
+pub with-at : (f : File) (r : Content × ℕ) → with-record f r .at ≡ f .at + r .1
+unfolding with-record
+with-at f (header s, n) = refl
+with-at f (break b, n) = refl
+with-at f (object o, n) = refl
+with-at f (play p, n) = refl
+
+-- ---- f is what was read so far of the file s
+pub record On (s : List ℕ) (f : File) : Type 0 where
+  pub fuel : ℕ
+  pub enough : length s - f .at < fuel
+  pub rest : fileFrom fuel s f ≡ fileOf s
+
+pub on-start : (s : List ℕ) → On s fresh
+unfolding fileOf
+on-start s = record { fuel = suc (length s); enough = omega arith; rest = refl }
+
+pub found-sized : (s : List ℕ) (f : File) (r : Content × ℕ) → foundAt s f ≡ good r → Sized (drop (f .at) s) r
+found-sized s f r e = all-out (rw e at (record-sized (drop (f .at) s) (countsOf f)))
+
+pub on-step : (s : List ℕ) (f : File) (r : Content × ℕ) → On s f → f .at < length s → foundAt s f ≡ good r → On s (with-record f r)
+on-step s f r on h e = go (on .fuel) refl
+  where
+    go : (fuel : ℕ) → on .fuel ≡ fuel → On s (with-record f r)
+    go zero p = never (omega (arith, on .enough, p))
+    go (suc fuel) p =
+        let sized = found-sized s f r e in
+        let past = with-at f r in
+        record {
+          fuel = fuel;
+          enough = omega (arith, on .enough, p, past, sized .0, h);
+          rest = sym (from-good fuel s f r h e) ∙ ap (λ (m : ℕ). fileFrom m s f) (sym p) ∙ on .rest;
+        }
+
+pub on-stop : (s : List ℕ) (f : File) (n : ℕ) → On s f → f .at < length s → foundAt s f ≡ refused n → fileOf s ≡ refusedAt n (f .at) f
+on-stop s f n on h e = go (on .fuel) refl
+  where
+    go : (fuel : ℕ) → on .fuel ≡ fuel → fileOf s ≡ refusedAt n (f .at) f
+    go zero p = never (omega (arith, on .enough, p))
+    go (suc fuel) p = sym (on .rest) ∙ ap (λ (j : ℕ). fileFrom j s f) p ∙ from-refused fuel s f n h e
+
+pub on-end : (s : List ℕ) (f : File) → On s f → length s ≤ f .at → fileOf s ≡ ended f
+on-end s f on h = go (on .fuel) refl
+  where
+    go : (fuel : ℕ) → on .fuel ≡ fuel → fileOf s ≡ ended f
+    go zero p = never (omega (arith, on .enough, p))
+    go (suc fuel) p = sym (on .rest) ∙ ap (λ (j : ℕ). fileFrom j s f) p ∙ from-end fuel s f h
+
+-- ---- the loop's invariant: the reader is the view of what was read
+pub record Kept (s : List ℕ) (f : File) (reader : Reader) : Type 0 where
+  pub viewed : reader ≡ view f
+  pub on : On s f
+
+pub kept-start : (s : List ℕ) → Kept s fresh freshOf
+unfolding view countsOf bonus
+kept-start s = record { viewed = refl; on = on-start s }
+
+at-view : (s : List ℕ) (f : File) → recordOf (drop (view f .at) s) (view f .counts) ≡ foundAt s f
+unfolding view
+at-view s f = refl
+
+at-is : (f : File) {reader : Reader} → reader ≡ view f → reader .at ≡ f .at
+unfolding view
+at-is f e = ap (λ r. r .at) e
+
+last-is : (f : File) {reader : Reader} → reader ≡ view f → reader .counts .last ≡ f .last
+unfolding view countsOf
+last-is f e = ap (λ r. r .counts .last) e
+
 -- a step of the loop: the record's content, and the file with it
 pub record Moved (s : List ℕ) (f : File) (reader : Reader) (item : Record) (next : Reader) : Type 0 where
   pub content : Content × ℕ
@@ -91,80 +146,54 @@ pub record Moved (s : List ℕ) (f : File) (reader : Reader) (item : Record) (ne
   pub kept : Kept s (with-record f content) next
   pub ahead : reader .at < next .at
 
-at-is : (f : File) {reader : Reader} → reader ≡ view f → reader .at ≡ f .at
-unfolding view
-at-is f e = ap (λ r. r .at) e
-
-with-at : (f : File) (r : Content × ℕ) → with-record f r .at ≡ f .at + r .1
-unfolding with-record
-with-at f (header s, n) = refl
-with-at f (break b, n) = refl
-with-at f (object o, n) = refl
-with-at f (play p, n) = refl
-
 module _ (s : List ℕ) (f : File) (reader : Reader) (k : Kept s f reader) (h : reader .at < length s) where
   before-end : f .at < length s
   before-end = subst (λ (n : ℕ). n < length s) (at-is f (k .viewed)) h
 
+  -- what the code was told, of the definition's find
+  told : {x : Step} → x ≡ stepOf reader (recordOf (drop (reader .at) s) (reader .counts)) → x ≡ stepOf (view f) (foundAt s f)
+  told e = e ∙ ap (λ r. stepOf r (recordOf (drop (r .at) s) (r .counts))) (k .viewed) ∙ ap (stepOf (view f)) (at-view s f)
+
   pub kept-step : (item : Record) (next : Reader) → step.Next item next ≡ stepOf reader (recordOf (drop (reader .at) s) (reader .counts)) → Moved s f reader item next
-  kept-step item next e = go (foundAt s f) refl (e ∙ ap (λ r. stepOf r (recordOf (drop (r .at) s) (r .counts))) (k .viewed) ∙ ap (stepOf (view f)) (at-view s f))
+  kept-step item next e = go (foundAt s f) refl (told e)
     where
-      moved : (r : Content × ℕ) (fuel : ℕ) → k .fuel ≡ fuel → foundAt s f ≡ good r → item ≡ contentView (r .0) → next ≡ behind (view f) r → Moved s f reader item next
-      moved r zero p q i n = never (omega (arith, k .enough, p))
-      moved r (suc fuel) p q i n =
-          let sized : Sized (drop (f .at) s) r = all-out (rw q at (record-sized (drop (f .at) s) (countsOf f))) in
-          let past = with-at f r in
+      moved : (r : Content × ℕ) → foundAt s f ≡ good r → item ≡ contentView (r .0) → next ≡ behind (view f) r → Moved s f reader item next
+      moved r q i n =
+          let viewed = n ∙ sym (view-with f r) in
           let here = at-is f (k .viewed) in
-          let there : next .at ≡ f .at + r .1 = at-is (with-record f r) (n ∙ sym (view-with f r)) ∙ past in
+          let there : next .at ≡ f .at + r .1 = at-is (with-record f r) viewed ∙ with-at f r in
           record {
             content = r;
             found = q;
             same = i;
-            kept = record {
-              viewed = n ∙ sym (view-with f r);
-              fuel = fuel;
-              enough = omega (arith, k .enough, p, past, sized .0, before-end);
-              rest = sym (from-good fuel s f r before-end q) ∙ ap (λ (m : ℕ). fileFrom m s f) (sym p) ∙ k .rest;
-            };
-            ahead = omega (arith, here, there, sized .0);
+            kept = record { viewed = viewed; on = on-step s f r (k .on) before-end q };
+            ahead = omega (arith, here, there, found-sized s f r q .0);
           }
 
       go : (x : Found) → foundAt s f ≡ x → step.Next item next ≡ stepOf (view f) x → Moved s f reader item next
       go (refused n) q e = never (cc)
-      go (good r) q e = moved r (k .fuel) refl q (cc) (cc)
+      go (good r) q e = moved r q (cc) (cc)
 
   pub kept-stop : (n at : ℕ) → step.Refused n at ≡ stepOf reader (recordOf (drop (reader .at) s) (reader .counts)) → fileOf s ≡ refusedAt n at f
-  kept-stop n at e = go (foundAt s f) refl (k .fuel) refl (e ∙ ap (λ r. stepOf r (recordOf (drop (r .at) s) (r .counts))) (k .viewed) ∙ ap (stepOf (view f)) (at-view s f))
+  kept-stop n at e = go (foundAt s f) refl (told e)
     where
-      go : (x : Found) → foundAt s f ≡ x → (fuel : ℕ) → k .fuel ≡ fuel → step.Refused n at ≡ stepOf (view f) x → fileOf s ≡ refusedAt n at f
-      go (good r) q fuel p e = never (cc)
-      go (refused m) q zero p e = never (omega (arith, k .enough, p))
-      go (refused m) q (suc fuel) p e =
+      go : (x : Found) → foundAt s f ≡ x → step.Refused n at ≡ stepOf (view f) x → fileOf s ≡ refusedAt n at f
+      go (good r) q e = never (cc)
+      go (refused m) q e =
           let i : n ≡ m = cc in
           let a : at ≡ view f .at = cc in
-          sym (k .rest) ∙ ap (λ (j : ℕ). fileFrom j s f) p ∙ from-refused fuel s f m before-end q ∙ rw (i, a ∙ at-is f refl)
-
-pub kept-end : (s : List ℕ) (f : File) (reader : Reader) → Kept s f reader → length s ≤ reader .at → fileOf s ≡ ended f
-kept-end s f reader k h = go (k .fuel) refl
-  where
-    past : length s ≤ f .at
-    past = subst (λ (n : ℕ). length s ≤ n) (at-is f (k .viewed)) h
-
-    go : (fuel : ℕ) → k .fuel ≡ fuel → fileOf s ≡ ended f
-    go zero p = never (omega (arith, k .enough, p))
-    go (suc fuel) p = sym (k .rest) ∙ ap (λ (j : ℕ). fileFrom j s f) p ∙ from-end fuel s f past
-
-last-is : (f : File) {reader : Reader} → reader ≡ view f → reader .counts .last ≡ f .last
-unfolding view countsOf
-last-is f e = ap (λ r. r .counts .last) e
+          on-stop s f m (k .on) before-end q ∙ rw (i, a ∙ at-is f refl)
 
 -- ---- the answers at the end of the input
 module _ (s : List ℕ) (f : File) (reader : Reader) (k : Kept s f reader) (h : length s ≤ reader .at) where
+  all-read : fileOf s ≡ ended f
+  all-read = on-end s f (k .on) (subst (λ (n : ℕ). length s ≤ n) (at-is f (k .viewed)) h)
+
   pub end-none : reader .counts .last ≡ 0 → answer.Refused 3 0 ≡ answerOf (fileOf s)
-  end-none e = rw (kept-end s f reader k h) (simp (eq-eqb (f .last) 0 (sym (last-is f (k .viewed)) ∙ e)))
+  end-none e = rw all-read (simp (eq-eqb (f .last) 0 (sym (last-is f (k .viewed)) ∙ e)))
 
   pub end-map : (reader .counts .last ≡ 0 → ⊥) → answer.Map reader ≡ answerOf (fileOf s)
-  end-map e = rw (kept-end s f reader k h) (simp (ne-eqb (f .last) 0 (λ z. e (last-is f (k .viewed) ∙ z))) (ap answer.Map (k .viewed)))
+  end-map e = rw all-read (simp (ne-eqb (f .last) 0 (λ z. e (last-is f (k .viewed) ∙ z))) (ap answer.Map (k .viewed)))
 
 -- some file was read so far
 pub record Reading (s : List ℕ) (reader : Reader) : Type 0 where

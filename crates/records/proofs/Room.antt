@@ -1,16 +1,16 @@
 -- A record that is read leaves the counts within their limits: the checks 6 and 7 ask just that.
 use mathlib.Core.Path.{_≡_, refl, sym, ap, _∙_}
-use mathlib.Core.Bool.{Bool, true, false}
+use mathlib.Core.Bool.{Bool, true, false, _&&_}
 use mathlib.Core.List.{List}
 use Prim.Native.Nat.{ℕ, _+_, _≤_, _<_}
 use native.Mathlib.Omega.{arith}
 use lib.Dec.{eqb, leb, ltb}
-use borrow.Author.Tests.{leb-false, ltb-false, eqb-true, not-false}
+use borrow.Author.Tests.{leb-false, ltb-true, ltb-false, eqb-true, not-false}
 use Rattle.numbers.specs.Words.{wordAt}
 use Rattle.records.specs.Refusals.{Checked, good, refused}
 use Rattle.records.specs.Objects.{Object}
 use Rattle.records.specs.Records.{Content, header, break, object, play, Found, CI, SL, SP, headerOf, breakOf, circleOf, sliderOf, spinnerOf, playOf, objectOf, contentView}
-use Rattle.records.specs.Order.{MH, BR, PL, rankOf, isFull, overBonus, contentBonus, bodyOf, recordOf}
+use Rattle.records.specs.Order.{MH, BR, PL, rankOf, inOrder, isFull, overBonus, contentBonus, bodyOf, recordOf}
 use Rattle.records.specs.View.{Fits, bonusIn}
 use Rattle.records.specs.declared.file.Counts.{Counts}
 use Rattle.records.proofs.All.{All, none, that, all-bind, all-any, all-when, all-pick}
@@ -55,3 +55,26 @@ unfolding recordOf
 record-fits r c =
     all-when 2 _ _ (λ _. all-when 3 _ _ (λ _. all-when 6 _ _ (λ few.
     all-bind (bodyOf r (wordAt r 0 2)) _ (body-placed r (wordAt r 0 2)) (λ f h. all-when 7 _ _ (λ low. that (fits c (wordAt r 0 2) (f .0) h few low))))))
+
+-- a record that is no header comes after one
+abbrev pub Begun : Counts → Content → Type 0
+Begun c (header s) = Unit
+Begun c (break b) = 0 < c .last
+Begun c (object o) = 0 < c .last
+Begun c (play p) = 0 < c .last
+
+and-left : (a b : Bool) → (a && b) ≡ true → a ≡ true
+and-left true b e = refl
+and-left false b e = e
+
+begun : (c : Counts) (m : ℕ) (x : Content) → placeOf x ≡ rankOf m → inOrder (c .last) (rankOf m) ≡ true → Begun c x
+begun c m (header s) p q = tt
+begun c m (break b) p q = ltb-true 0 (c .last) (and-left _ _ (rw (sym p) at q))
+begun c m (object o) p q = ltb-true 0 (c .last) (and-left _ _ (rw (sym p) at q))
+begun c m (play s) p q = ltb-true 0 (c .last) (and-left _ _ (rw (sym p) at q))
+
+pub record-begun : (r : List ℕ) (c : Counts) → All (λ f. Begun c (f .0)) (recordOf r c)
+unfolding recordOf
+record-begun r c =
+    all-when 2 _ _ (λ _. all-when 3 _ _ (λ order. all-when 6 _ _ (λ _.
+    all-bind (bodyOf r (wordAt r 0 2)) _ (body-placed r (wordAt r 0 2)) (λ f h. all-when 7 _ _ (λ _. that (begun c (wordAt r 0 2) (f .0) h (not-false _ order)))))))

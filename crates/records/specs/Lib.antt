@@ -6,5 +6,4 @@ pub mod Records
 pub mod Order
 pub mod File
 pub mod View
-pub mod Limits
-pub mod Encoding
+pub mod Examples

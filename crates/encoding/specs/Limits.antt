@@ -1,4 +1,4 @@
--- The maps and plays within document 01's limits: those whose file the library accepts (proofs/RoundTrip, proofs/Accepted).
+-- The maps and plays within document 01's limits: those whose file the library accepts (proofs/RoundTrip and proofs/Accepted).
 use Prim.Native.Nat.{ℕ, _+_, _≤_, _<_, _^_}
 use mathlib.Core.Path.{_≡_}
 use mathlib.Core.Bool.{Bool, true, false}
@@ -39,7 +39,7 @@ IsDuration x = Within binary64 (ofBits binary64 0) (ofBits binary64 0x414b774000
 -- what holds of each element
 pub data Each {A : Type 0} (P : A → Type 0) : List A → Type 0 where
   none : Each P []
-  one : {a : A} {as : List A} → P a → Each P as → Each P (a ∷ as)
+  one : {a : A} {l : List A} → P a → Each P l → Each P (a ∷ l)
 
 pub record SettingsWithin (s : Settings) : Type 0 where
   pub hp : IsSetting (s .hp)

@@ -9,8 +9,8 @@ use lib.Dec.{T, eqb, leb, eqb→eq, leb→le}
 use lib.ListN.{length, length-append}
 use Rattle.numbers.specs.Words.{wordAt, bytesOf}
 use Rattle.numbers.proofs.words.Laws.{wordAt-bytes, wordAt-skip, bytesOf-length}
 use Rattle.records.specs.Refusals.{pick}
-use Rattle.records.specs.Encoding.{fieldsOf}
+use Rattle.encoding.specs.Encoding.{fieldsOf}
 
 -- each number is within its width
 abbrev pub Fit : List (ℕ × ℕ) → Type 0
@@ -44,16 +44,21 @@ both false b t = absurd t
 pub field-back : (fs : List (ℕ × ℕ)) (rest : List ℕ) (at n : ℕ) → Fit fs → T (begins fs at n) → wordAt (fieldsOf fs ++ rest) at n ≡ fieldAt fs at
 unfolding fieldsOf
 field-back [] rest at n p t = absurd t
-field-back (f ∷ fs) rest at n p t = go (eqb at 0) refl t
+field-back (f ∷ fs) rest at n p t = go (eqb at 0) refl t (λ q. field-back fs rest (at - f .0) n (p .1) q)
   where
     go : (z : Bool) → eqb at 0 ≡ z → T (pick z (eqb (f .0) n) (leb (f .0) at && begins fs (at - f .0) n))
+        → (T (begins fs (at - f .0) n) → wordAt (fieldsOf fs ++ rest) (at - f .0) n ≡ fieldAt fs (at - f .0))
         → wordAt ((bytesOf (f .0) (f .1) ++ fieldsOf fs) ++ rest) at n ≡ pick z (f .1) (fieldAt fs (at - f .0))
-    go true e t =
+    go true e t later =
         let a : at ≡ 0 = eqb-true at 0 e in
         let w : f .0 ≡ n = eqb→eq (f .0) n t in
         rw (a, ← w, append-assoc) (wordAt-bytes (f .0) (f .1) (fieldsOf fs ++ rest) (p .0))
-    go false e t =
+    go false e t later =
         let b = both (leb (f .0) at) (begins fs (at - f .0) n) t in
         let h : f .0 ≤ at = leb→le (f .0) at (b .0) in
         let a : at ≡ f .0 + (at - f .0) = omega arith in
-        rw append-assoc (ap (λ (k : ℕ). wordAt (bytesOf (f .0) (f .1) ++ (fieldsOf fs ++ rest)) k n) a ∙ wordAt-skip (f .0) (f .1) (fieldsOf fs ++ rest) (at - f .0) n ∙ field-back fs rest (at - f .0) n (p .1) (b .1))
+        rw append-assoc (ap (λ (k : ℕ). wordAt (bytesOf (f .0) (f .1) ++ (fieldsOf fs ++ rest)) k n) a ∙ wordAt-skip (f .0) (f .1) (fieldsOf fs ++ rest) (at - f .0) n ∙ later (b .1))
+
+pub mark-back : (m : ℕ) (fs : List (ℕ × ℕ)) (rest : List ℕ) → m < 256 ^ 2 → wordAt (fieldsOf ((2, m) ∷ fs) ++ rest) 0 2 ≡ m
+unfolding fieldsOf
+mark-back m fs rest h = rw append-assoc (wordAt-bytes 2 m (fieldsOf fs ++ rest) h)

@@ -95,7 +95,7 @@ playBytes p = fieldsOf (playFields p)
 -- ---- the records of a list, one after the other
 unfoldable pub each : {A : Type 0} → (A → List ℕ) → List A → List ℕ
 each f [] = []
-each f (a ∷ as) = f a ++ each f as
+each f (a ∷ l) = f a ++ each f l
 
 -- "A map is settings, breaks and objects, accepted if its file without plays gets no number": that file
 unfoldable pub mapFile : Map → List ℕ

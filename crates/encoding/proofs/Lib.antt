@@ -1,0 +1,4 @@
+pub mod FieldBytes
+pub mod RecordsBack
+pub mod RoundTrip
+pub mod Accepted

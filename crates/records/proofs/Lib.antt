@@ -6,3 +6,4 @@ pub mod Sizes
 pub mod Room
 pub mod Steps
 pub mod Reading
+pub mod Local

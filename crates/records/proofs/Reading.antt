@@ -8,6 +8,7 @@ use native.Mathlib.Nat.{add-zero}
 use native.Mathlib.Omega.{arith}
 use lib.Dec.{ltb, eqb}
 use lib.ListN.{length, drop, length-append, length-drop}
+use lib.Seq.{drop-append-le}
 use borrow.Author.Tests.{lt-ltb, le-ltb, eq-eqb, ne-eqb}
 use Rattle.records.specs.Refusals.{Checked, good, refused, pick}
 use Rattle.records.specs.Objects.{Object, bonus, kindBonus}
@@ -23,6 +24,7 @@ use Rattle.records.specs.declared.file.Answer.{Answer}
 use Rattle.records.specs.declared.file.Answer.the-variants as answer
 use Rattle.records.proofs.All.{All, none, that, all-out}
 use Rattle.records.proofs.Bodies.{bonus-kept}
+use Rattle.records.proofs.Local.{record-in}
 use Rattle.records.proofs.Sizes.{Sized, record-sized}
 
 never : {A : Type 0} → _≡_ {A = ℕ} 0 1 → A
@@ -117,14 +119,38 @@ on-end s f on h = go (on .fuel) refl
     go zero p = never (omega (arith, on .enough, p))
     go (suc fuel) p = sym (on .rest) ∙ ap (λ (j : ℕ). fileFrom j s f) p ∙ from-end fuel s f h
 
+-- ---- the files that are read one after the other, record by record
+pub data Chain (s : List ℕ) : File → Type 0 where
+  start : Chain s fresh
+  longer : {f : File} {r : Content × ℕ} → Chain s f → f .at < length s → foundAt s f ≡ good r → Chain s (with-record f r)
+
+pub chain-on : (s : List ℕ) (f : File) → Chain s f → On s f
+chain-on s f start = on-start s
+chain-on s f (longer {f = g} {r = r} c h e) = on-step s g r (chain-on s g c) h e
+
+-- a part of a file that ends with a record is read as the whole is
+pub chain-in : (p t : List ℕ) (f : File) → Chain (p ++ t) f → f .at ≤ length p → Chain p f
+chain-in p t f start h = start
+chain-in p t f (longer {f = g} {r = r} c b e) h =
+    let past = with-at g r in
+    let sized = found-sized (p ++ t) g r e in
+    let here : g .at < length p = omega (arith, past, h, sized .0) in
+    let rest : drop (g .at) (p ++ t) ≡ drop (g .at) p ++ t = drop-append-le (g .at) p t (omega (arith, here)) in
+    let room = length-drop (g .at) p in
+    let found : recordOf (drop (g .at) p ++ t) (countsOf g) ≡ good r = ap (λ (l : List ℕ). recordOf l (countsOf g)) (sym rest) ∙ e in
+    longer (chain-in p t g c (omega (arith, here))) here (record-in (drop (g .at) p) t (countsOf g) r found (sized .0) (omega (arith, past, h, room)))
+
+pub part-file : (p t : List ℕ) (f : File) → Chain (p ++ t) f → f .at ≡ length p → fileOf p ≡ ended f
+part-file p t f c e = on-end p f (chain-on p f (chain-in p t f c (omega (arith, e)))) (omega (arith, e))
+
 -- ---- the loop's invariant: the reader is the view of what was read
 pub record Kept (s : List ℕ) (f : File) (reader : Reader) : Type 0 where
   pub viewed : reader ≡ view f
-  pub on : On s f
+  pub chain : Chain s f
 
 pub kept-start : (s : List ℕ) → Kept s fresh freshOf
 unfolding view countsOf bonus
-kept-start s = record { viewed = refl; on = on-start s }
+kept-start s = record { viewed = refl; chain = start }
 
 at-view : (s : List ℕ) (f : File) → recordOf (drop (view f .at) s) (view f .counts) ≡ foundAt s f
 unfolding view
@@ -166,7 +192,7 @@ module _ (s : List ℕ) (f : File) (reader : Reader) (k : Kept s f reader) (h : 
             content = r;
             found = q;
             same = i;
-            kept = record { viewed = viewed; on = on-step s f r (k .on) before-end q };
+            kept = record { viewed = viewed; chain = longer (k .chain) before-end q };
             ahead = omega (arith, here, there, found-sized s f r q .0);
           }
 
@@ -182,12 +208,12 @@ module _ (s : List ℕ) (f : File) (reader : Reader) (k : Kept s f reader) (h : 
       go (refused m) q e =
           let i : n ≡ m = cc in
           let a : at ≡ view f .at = cc in
-          on-stop s f m (k .on) before-end q ∙ rw (i, a ∙ at-is f refl)
+          on-stop s f m (chain-on s f (k .chain)) before-end q ∙ rw (i, a ∙ at-is f refl)
 
 -- ---- the answers at the end of the input
 module _ (s : List ℕ) (f : File) (reader : Reader) (k : Kept s f reader) (h : length s ≤ reader .at) where
   all-read : fileOf s ≡ ended f
-  all-read = on-end s f (k .on) (subst (λ (n : ℕ). length s ≤ n) (at-is f (k .viewed)) h)
+  all-read = on-end s f (chain-on s f (k .chain)) (subst (λ (n : ℕ). length s ≤ n) (at-is f (k .viewed)) h)
 
   pub end-none : reader .counts .last ≡ 0 → answer.Refused 3 0 ≡ answerOf (fileOf s)
   end-none e = rw all-read (simp (eq-eqb (f .last) 0 (sym (last-is f (k .viewed)) ∙ e)))

@@ -1,4 +1,4 @@
--- A record that is read has bytes, and ends within the input.
+-- A record that is read has at least its mark, and ends within the input.
 use mathlib.Core.Path.{_≡_}
 use mathlib.Core.Bool.{Bool, true, false}
 use mathlib.Core.List.{List}
@@ -15,10 +15,10 @@ use Rattle.records.specs.declared.file.Counts.{Counts}
 use Rattle.records.proofs.All.{All, none, that, all-bind, all-any, all-when, all-pick}
 
 abbrev pub Sized : List ℕ → Content × ℕ → Type 0
-Sized r f = (0 < f .1) × (f .1 ≤ length r)
+Sized r f = (2 ≤ f .1) × (f .1 ≤ length r)
 
 -- a part that is not cut
-there : (r : List ℕ) (n : ℕ) → 0 < n → ltb (length r) n ≡ false → (0 < n) × (n ≤ length r)
+there : (r : List ℕ) (n : ℕ) → 2 ≤ n → ltb (length r) n ≡ false → (2 ≤ n) × (n ≤ length r)
 there r n h e = (h, ltb-false (length r) n e)
 
 header-sized : (r : List ℕ) → All (Sized r) (headerOf r)

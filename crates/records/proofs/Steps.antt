@@ -25,10 +25,10 @@ rest-is s at = let h : length (drop at s) ≤ length s - at = simp length-drop (
 
 -- ---- a good read
 module _ (x : Found) (r : Record) (n : ℕ) (e : Good r n ≡ readOf x) where
-  pub read-size : (l : List ℕ) → All (Sized l) x → (0 < n) × (n ≤ length l)
+  pub read-size : (l : List ℕ) → All (Sized l) x → (2 ≤ n) × (n ≤ length l)
   read-size l a = go x a e
     where
-      go : (x : Found) → All (Sized l) x → Good r n ≡ readOf x → (0 < n) × (n ≤ length l)
+      go : (x : Found) → All (Sized l) x → Good r n ≡ readOf x → (2 ≤ n) × (n ≤ length l)
       go (refused m) none e = never (cc)
       go (good f) (that p) e = let k : n ≡ f .1 = cc in rw k p
 

@@ -2,3 +2,4 @@
 pub mod Bounds
 pub mod Nan
 pub mod Wholes
+pub mod Order

@@ -1,0 +1,27 @@
+-- The branches are those of the definition, operation by operation.
+use Rattle.estimates.specs.ComboBased.{brokenOf}
+use lib.Ieee.{ofBits, ofInt, round}
+use borrow.Author.Needs.{needs}
+use Rattle.estimates.proofs.calculator.broken_miss_count.Statement.{statement}
+use Rattle.estimates.proofs.calculator.broken_miss_count.Tie as tie
+
+float-requires : tie.Need-float-requires
+float-requires c κs = search needs
+
+max-requires : tie.Need-max-requires
+max-requires c κs = search needs
+
+float-requires-2 : tie.Need-float-requires-2
+float-requires-2 c κs = search needs
+
+returns : tie.Need-returns
+unfolding brokenOf ofBits ofInt round
+returns c = simp (c .max .ensures, c .before .before .float .ensures, rw (c .before .before .float .ensures) at (c .before .if1 .taken))
+
+returns-2 : tie.Need-returns-2
+unfolding brokenOf ofBits ofInt round
+returns-2 c = simp (c .float2 .ensures, c .before .before .float .ensures, rw (c .before .before .float .ensures) at (c .before .if1 .left))
+
+pub broken-miss-count-spec : {M : Type 1} → statement M
+broken-miss-count-spec =
+    tie.close (tie.spec float-requires max-requires float-requires-2 returns returns-2)

@@ -1,0 +1,76 @@
+-- The formula is the definition's, operation by operation.
+use Rattle.estimates.specs.Accuracy.{withSliderAcc}
+use lib.Ieee.{ofBits, ofInt, round}
+use borrow.Author.Needs.{needs}
+use Rattle.estimates.proofs.score_state.with_slider_acc.Statement.{statement}
+use Rattle.estimates.proofs.score_state.with_slider_acc.Tie as tie
+
+large-ticks-requires : tie.Need-large-ticks-requires
+large-ticks-requires c κs = search needs
+
+cast-max-slider-ends : tie.Need-cast-max-slider-ends
+cast-max-slider-ends c = search needs
+
+cast-least : tie.Need-cast-least
+cast-least c = search needs
+
+least-requires : tie.Need-least-requires
+least-requires c κs = search needs
+
+cast-least-2 : tie.Need-cast-least-2
+cast-least-2 c = search needs
+
+least-requires-2 : tie.Need-least-requires-2
+least-requires-2 c κs = search needs
+
+weight-requires : tie.Need-weight-requires
+weight-requires c κs = search needs
+
+mul-float : tie.Need-mul-float
+mul-float c = search needs
+
+float-requires : tie.Need-float-requires
+float-requires c κs = search needs
+
+float-requires-2 : tie.Need-float-requires-2
+float-requires-2 c κs = search needs
+
+full-weight-requires : tie.Need-full-weight-requires
+full-weight-requires c κs = search needs
+
+mul-float-2 : tie.Need-mul-float-2
+mul-float-2 c = search needs
+
+float-requires-3 : tie.Need-float-requires-3
+float-requires-3 c κs = search needs
+
+float-requires-4 : tie.Need-float-requires-4
+float-requires-4 c κs = search needs
+
+quotient-requires : tie.Need-quotient-requires
+quotient-requires c κs = search needs
+
+returns : tie.Need-returns
+unfolding withSliderAcc ofBits round
+returns c = simp (c .quotient .ensures, c .before .float4 .ensures, c .before .before .float3 .ensures, c .before .before .before .full-weight .ensures, c .before .before .before .before .float2 .ensures, c .before .before .before .before .before .float .ensures, c .before .before .before .before .before .before .weight .ensures, c .before .before .before .before .before .before .before .least2 .ensures, c .before .before .before .before .before .before .before .before .before .least .ensures, c .before .before .before .before .before .before .before .before .before .before .before .before .large-ticks .ensures .0)
+
+pub with-slider-acc-spec : {M : Type 1} → statement M
+with-slider-acc-spec =
+    tie.close
+    (tie.spec
+    large-ticks-requires
+    cast-max-slider-ends
+    cast-least
+    least-requires
+    cast-least-2
+    least-requires-2
+    weight-requires
+    mul-float
+    float-requires
+    float-requires-2
+    full-weight-requires
+    mul-float-2
+    float-requires-3
+    float-requires-4
+    quotient-requires
+    returns)

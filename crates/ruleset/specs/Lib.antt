@@ -1,0 +1,3 @@
+pub mod BaseScore
+pub mod Drain
+pub mod Stars

@@ -1,0 +1,305 @@
+-- What a loop over a map file keeps: the sums are those of the objects read so far, and there is room for the next one. Assumes nothing.
+use mathlib.Core.Path.{_≡_, refl, sym, ap, _∙_, subst}
+use mathlib.Core.List.{List, [], _∷_, _++_}
+use Prim.Native.Nat.{ℕ, zero, suc, _+_, _-_, _≤_, _<_}
+use native.Mathlib.Omega.{arith}
+use borrow.Author.Tests.{eq-eqb, ne-eqb}
+use lib.Dec.{eqb, eqb·suc-zero}
+use lib.ListN.{length, take, drop, length-take}
+use Rattle.numbers.specs.Words.{wordAt}
+use Rattle.records.specs.Objects.{Object, Kind, circle, slider, spinner, kindView, objectView}
+use Rattle.records.specs.Records.{Content, header, break, object, play, contentView, headerOf, breakOf, playOf, objectOf}
+use Rattle.records.specs.Order.{MH, BR, PL, bodyOf, recordOf}
+use Rattle.records.specs.File.{Map, File, Result, accepted, countsOf, with-record, ended, fileOf}
+use Rattle.records.specs.File as file·of
+use Rattle.encoding.specs.Limits.{Each, none, one, KindWithin, BreakWithin, ObjectWithin, SettingsWithin, MapWithin}
+use Rattle.records.specs.View.{Fits, stepOf, view, freshOf}
+use Rattle.records.specs.declared.beatmap.BreakPeriod.{BreakPeriod}
+use Rattle.records.specs.declared.file.Counts.{Counts}
+use Rattle.records.specs.declared.file.Reader.{Reader}
+use Rattle.records.specs.declared.file.Step.the-variants as step
+use Rattle.records.specs.declared.record.Record.{Record}
+use Rattle.records.proofs.All.{All, that, all-bind, all-any, all-when, all-pick, all-map, all-out}
+use Rattle.encoding.proofs.Accepted.{object-within, accepted-within}
+use Rattle.records.proofs.Reading.{Kept, Moved, kept-start, chain-on, kept-step, kept-stop, on-end, length-snoc}
+use Rattle.records.proofs.Room.{record-fits}
+use Rattle.ruleset.specs.Drain.{startOf, lastPlace, drainAt, drainOf, breaksLength, breaksIn}
+use Rattle.ruleset.specs.Stars.{multiplierOf, multiplierAt}
+use Rattle.ruleset.proofs.FileBreaks.{Standing, standing-start, standing-step}
+use Rattle.simulator.specs.Hits.{hitsOf}
+use Rattle.simulator.specs.Walk.{State, fresh, walk, after}
+use Rattle.simulator.specs.Nested.{noObject, counted, countedAll}
+use Rattle.simulator.specs.Attributes.{scoreAttributesOf, scoreAttributesAt}
+use Rattle.simulator.specs.Limits.{Within, Counted, nestedCount, Room}
+use Rattle.simulator.specs.Sums.{sumsOf, withObject, withRecord, drainIn, simulatedOf}
+use Rattle.simulator.specs.View.{times}
+use Rattle.simulator.specs.declared.legacy_score.NestedScorePerObject.{NestedScorePerObject}
+use Rattle.simulator.specs.declared.simulate.Sums.{Sums}
+use Rattle.simulator.specs.declared.simulate.Simulated.the-variants as simulated
+use Rattle.simulator.proofs.Walks.{after-times, fresh-times}
+use Rattle.simulator.proofs.Bounds.{fresh-within, within-more, step-within, none-counted, counted-more, step-counted}
+use Rattle.simulator.proofs.Sums.{items-count}
+use Rattle.simulator.proofs.Passed.{sums-more}
+
+-- ---- the objects of a file have at most 1,000 nested items
+abbrev Few : Object → Type 0
+Few o = nestedCount (kindView (o .kind)) ≤ 1000
+
+abbrev FewIn : Content → Type 0
+FewIn (header s) = Unit
+FewIn (break b) = Unit
+FewIn (object o) = Few o
+FewIn (play p) = Unit
+
+-- what object-within says of a content
+abbrev ContentWithin : Content → Type 0
+ContentWithin (header s) = SettingsWithin s
+ContentWithin (break b) = BreakWithin b
+ContentWithin (object o) = ObjectWithin o
+ContentWithin (play p) = Unit
+
+kind-few : (k : Kind) → KindWithin k → nestedCount (kindView k) ≤ 1000
+kind-few circle h = omega arith
+kind-few (slider is) h = let e = items-count is in omega (arith, e, h)
+kind-few (spinner d) h = omega arith
+
+object-few : (r : List ℕ) (m : ℕ) → All (λ f. FewIn (f .0)) (objectOf r m)
+object-few r m = all-map (objectOf r m) (object-within r m) few
+  where
+    few : (f : Content × ℕ) → ContentWithin (f .0) → FewIn (f .0)
+    few (header s, n) h = tt
+    few (break b, n) h = tt
+    few (object o, n) h = kind-few (o .kind) (h .kind)
+    few (play p, n) h = tt
+
+body-few : (r : List ℕ) (m : ℕ) → All (λ f. FewIn (f .0)) (bodyOf r m)
+unfolding bodyOf headerOf breakOf playOf
+body-few r m =
+    all-pick (eqb m MH) (λ _. all-when 2 _ _ (λ _. all-any _ _ (λ hp. all-any _ _ (λ od. all-any _ _ (λ cs. that tt))))) (λ _.
+    all-pick (eqb m BR) (λ _. all-when 2 _ _ (λ _. all-any _ _ (λ a. all-any _ _ (λ b. that tt)))) (λ _.
+    all-pick (eqb m PL) (λ _. all-when 2 _ _ (λ _. all-any _ _ (λ o. all-any _ _ (λ s. all-when 8 _ _ (λ _. all-any _ _ (λ x. that tt)))))) (λ _. object-few r m)))
+
+record-few : (r : List ℕ) (c : Counts) → All (λ f. FewIn (f .0)) (recordOf r c)
+unfolding recordOf
+record-few r c =
+    all-when 2 _ _ (λ _. all-when 3 _ _ (λ _. all-when 6 _ _ (λ _.
+    all-bind (bodyOf r (wordAt r 0 2)) _ (body-few r (wordAt r 0 2)) (λ f h. all-when 7 _ _ (λ _. that h)))))
+
+-- ---- so the sums stay within their bounds
+each-take : (p : ℕ) {os : List Object} → Each Few os → Each Few (take p os)
+each-take zero w = none
+each-take (suc p) none = none
+each-take (suc p) (one h w) = one h (each-take p w)
+
+each-more : (os : List Object) (o : Object) → Each Few os → Few o → Each Few (os ++ (o ∷ []))
+each-more [] o none h = one h none
+each-more (x ∷ os) o (one k w) h = one k (each-more os o w h)
+
+all-within : (n : ℕ) (st : State) (os : List Object) → n + length os ≤ 8192 → Each Few os → Within n st → Within (n + length os) (after 1 st os)
+unfolding after
+all-within n st [] h none w = within-more n (n + 0) st (omega arith) w
+all-within n st (o ∷ os) h (one k e) w =
+    let step = step-within n st (o .kind) (omega (arith, h)) k w in
+    let rest = all-within (n + 1) (walk 1 st (hitsOf (o .kind))) os (omega (arith, h)) e step in
+    within-more (n + 1 + length os) (n + suc (length os)) (after 1 (walk 1 st (hitsOf (o .kind))) os) (omega arith) rest
+
+all-counted : (n : ℕ) (c : NestedScorePerObject) (os : List Object) → Each Few os → Counted n c → Counted (n + length os) (countedAll c os)
+unfolding countedAll
+all-counted n c [] none w = counted-more n (n + 0) c (omega arith) w
+all-counted n c (o ∷ os) (one k e) w =
+    let rest = all-counted (n + 1) (counted c (o .kind)) os e (step-counted n c (o .kind) k w) in
+    counted-more (n + 1 + length os) (n + suc (length os)) (countedAll (counted c (o .kind)) os) (omega arith) rest
+
+module _ (p n : ℕ) (os : List Object) (few : length os ≤ n) (most : n ≤ 8192) (w : Each Few os) where
+  taken : length (take p os) ≤ n
+  taken = let e = length-take p os in omega (arith, e, few)
+
+  pub passed-within : Within n (after 1 fresh (take p os))
+  passed-within = within-more (0 + length (take p os)) n _ (omega (arith, taken)) (all-within 0 fresh (take p os) (omega (arith, taken, most)) (each-take p w) fresh-within)
+
+  pub passed-counted : Counted n (countedAll noObject (take p os))
+  passed-counted = counted-more (0 + length (take p os)) n _ (omega (arith, taken)) (all-counted 0 noObject (take p os) (each-take p w) none-counted)
+
+one-more : (c : NestedScorePerObject) (k : Kind) → counted c k .«object_count» ≡ c .«object_count» + 1
+unfolding counted
+one-more c circle = refl
+one-more c (slider is) = refl
+one-more c (spinner d) = refl
+
+count-is : (c : NestedScorePerObject) (os : List Object) → countedAll c os .«object_count» ≡ c .«object_count» + length os
+unfolding countedAll
+count-is c [] = omega arith
+count-is c (o ∷ os) = let e = count-is (counted c (o .kind)) os in let f = one-more c (o .kind) in omega (arith, e, f)
+
+-- ---- the loop's invariant
+pub record Summing (s : List ℕ) (p : ℕ) (reader : Reader) (sums : Sums) : Type 0 where
+  pub file : File
+  pub kept : Kept s file reader
+  pub standing : Standing s file
+  pub few : Each Few (file .map .objects)
+  pub count : length (file .map .objects) ≤ 8192
+  pub same : sums ≡ sumsOf p (file .map .objects)
+
+pub summing-start : (s : List ℕ) (p : ℕ) → Summing s p freshOf (sumsOf p [])
+summing-start s p =
+    record { file = file·of.fresh; kept = kept-start s; standing = standing-start s; few = none; count = omega arith; same = refl }
+
+objects-of : (f : File) (reader : Reader) → reader ≡ view f → reader .counts .objects ≡ length (f .map .objects)
+unfolding view countsOf
+objects-of f reader e = ap (λ r. r .counts .objects) e
+
+module _ {s : List ℕ} {p : ℕ} {reader : Reader} {sums : Sums} (k : Summing s p reader sums) where
+  abbrev f : File
+  f = k .file
+
+  -- a refused record refuses the file
+  pub summing-stop : reader .at < length s → (n at : ℕ) → step.Refused n at ≡ stepOf reader (recordOf (drop (reader .at) s) (reader .counts))
+      → simulated.Refused n at ≡ simulatedOf (fileOf s) p
+  summing-stop h n at e = sym (ap (λ (r : Result). simulatedOf r p) (kept-stop s f reader (k .kept) h n at e))
+
+  -- there is room for a record that was found
+  room-for : (x : Content) → FewIn x → Fits (countsOf f) (contentView x) → Room sums (contentView x)
+  unfolding countsOf sumsOf
+  room-for (header t) h e = tt
+  room-for (break b) h e = tt
+  room-for (object o) h e =
+      let under : length (f .map .objects) ≤ 8191 = omega (arith, e .0) in
+      rw (k .same)
+      (passed-within p 8191 (f .map .objects) under (omega arith) (k .few), passed-counted p 8191 (f .map .objects) under (omega arith) (k .few), h)
+  room-for (play q) h e = tt
+
+  -- the sums with it, and the file with it
+  with-it : (x : Content) (n : ℕ) → FewIn x → Fits (countsOf f) (contentView x)
+      → Each Few (with-record f (x, n) .map .objects)
+      × (length (with-record f (x, n) .map .objects) ≤ 8192)
+      × (withRecord p (reader .counts .objects) sums (contentView x) ≡ sumsOf p (with-record f (x, n) .map .objects))
+  unfolding with-record countsOf
+  with-it (header t) n h e = (k .few, k .count, k .same)
+  with-it (break b) n h e = (k .few, k .count, k .same)
+  with-it (object o) n h e =
+      let more = length-snoc (f .map .objects) o in (
+        each-more (f .map .objects) o (k .few) h,
+        omega (arith, more, e .0),
+        ap (λ (m : ℕ). withObject p m sums (objectView o)) (objects-of f reader (k .kept .viewed))
+            ∙ ap (λ (x : Sums). withObject p (length (f .map .objects)) x (objectView o)) (k .same)
+            ∙ sym (sums-more p (f .map .objects) o),
+      )
+  with-it (play q) n h e = (k .few, k .count, k .same)
+
+  module _ (h : reader .at < length s) (item : Record) (next : Reader)
+      (e : step.Next item next ≡ stepOf reader (recordOf (drop (reader .at) s) (reader .counts))) where
+    abbrev moved : Moved s f reader item next
+    moved = kept-step s f reader (k .kept) h item next e
+
+    few-found : FewIn (moved .content .0)
+    few-found = all-out (rw (moved .found) at (record-few (drop (f .at) s) (countsOf f)))
+
+    fits-found : Fits (countsOf f) (contentView (moved .content .0))
+    fits-found = all-out (rw (moved .found) at (record-fits (drop (f .at) s) (countsOf f)))
+
+    pub summing-room : Room sums item
+    summing-room = rw (moved .same) (room-for (moved .content .0) few-found fits-found)
+
+    pub summing-step : (new : Sums) → new ≡ withRecord p (reader .counts .objects) sums item → Summing s p next new
+    summing-step new q =
+        let w = with-it (moved .content .0) (moved .content .1) few-found fits-found in
+        record {
+          file = with-record f (moved .content);
+          kept = moved .kept;
+          standing = standing-step s f (moved .content) (moved .found) (k .standing);
+          few = w .0;
+          count = w .1;
+          same = q ∙ ap (withRecord p (reader .counts .objects) sums) (moved .same) ∙ w .2;
+        }
+
+    pub summing-ahead : reader .at < next .at
+    summing-ahead = moved .ahead
+
+-- ---- the end of the input
+drain-of : (s : List ℕ) (p : ℕ) (os : List Object) (bs : List BreakPeriod) → breaksIn s (length bs) ≡ bs → drainIn s (length bs) (length os) (sumsOf p os) ≡ drainAt bs os p
+unfolding drainIn sumsOf drainAt
+drain-of s p [] bs e = refl
+drain-of s p (o ∷ os) bs e =
+    let last = startOf (o ∷ os) (lastPlace (length (o ∷ os)) p) in
+    rw (eqb·suc-zero (length os)) (ap (λ (l : List BreakPeriod). drainOf (o .start) last (breaksLength last l)) e)
+
+pub record Seen (f : File) (reader : Reader) : Type 0 where
+  pub at : reader .at ≡ f .at
+  pub settings : reader .settings ≡ f .map .settings
+  pub last : reader .counts .last ≡ f .last
+  pub breaks : reader .counts .breaks ≡ length (f .map .breaks)
+  pub objects : reader .counts .objects ≡ length (f .map .objects)
+
+seen : (f : File) (reader : Reader) → reader ≡ view f → Seen f reader
+unfolding view countsOf
+seen f reader e = record {
+  at = ap (λ r. r .at) e;
+  settings = ap (λ r. r .settings) e;
+  last = ap (λ r. r .counts .last) e;
+  breaks = ap (λ r. r .counts .breaks) e;
+  objects = ap (λ r. r .counts .objects) e;
+}
+
+module _ {s : List ℕ} {p : ℕ} {reader : Reader} {sums : Sums} (k : Summing s p reader sums) (h : length s ≤ reader .at) where
+  abbrev g : File
+  g = k .file
+
+  abbrev sees : Seen g reader
+  sees = seen g reader (k .kept .viewed)
+
+  all-read : fileOf s ≡ ended g
+  all-read = on-end s g (chain-on s g (k .kept .chain)) (omega (arith, h, sees .at))
+
+  pub end-none : reader .counts .last ≡ 0 → simulated.Refused 3 0 ≡ simulatedOf (fileOf s) p
+  end-none e = rw all-read (simp (eq-eqb (g .last) 0 (sym (sees .last) ∙ e)))
+
+  module _ (e : reader .counts .last ≡ 0 → ⊥) where
+    file-is : fileOf s ≡ accepted g
+    file-is = all-read ∙ simp (ne-eqb (g .last) 0 (λ z. e (sees .last ∙ z)))
+
+    limits : MapWithin (g .map)
+    limits = accepted-within s g file-is
+
+    pub end-settings : SettingsWithin (reader .settings)
+    end-settings = subst SettingsWithin (sym (sees .settings)) (limits .settings)
+
+    pub end-breaks : reader .counts .breaks ≤ 128
+    end-breaks = omega (arith, sees .breaks, limits .few-breaks)
+
+    pub end-within : Within 8192 (sums .score)
+    unfolding sumsOf
+    end-within = subst (λ (x : Sums). Within 8192 (x .score)) (sym (k .same)) (passed-within p 8192 (g .map .objects) (k .count) (omega arith) (k .few))
+
+    pub end-counted : Counted 8192 (sums .nested)
+    unfolding sumsOf
+    end-counted = subst (λ (x : Sums). Counted 8192 (x .nested)) (sym (k .same)) (passed-counted p 8192 (g .map .objects) (k .count) (omega arith) (k .few))
+
+    drain-is : drainIn s (reader .counts .breaks) (reader .counts .objects) sums ≡ drainAt (g .map .breaks) (g .map .objects) p
+    drain-is =
+        ap (λ (n : ℕ). drainIn s n (reader .counts .objects) sums) (sees .breaks)
+        ∙ ap (λ (n : ℕ). drainIn s (length (g .map .breaks)) n sums) (sees .objects)
+        ∙ ap (drainIn s (length (g .map .breaks)) (length (g .map .objects))) (k .same)
+        ∙ drain-of s p (g .map .objects) (g .map .breaks) (k .standing .same)
+
+    objects-is : sums .nested .«object_count» ≡ length (take p (g .map .objects))
+    unfolding sumsOf
+    objects-is = ap (λ (x : Sums). x .nested .«object_count») (k .same) ∙ count-is noObject (take p (g .map .objects)) ∙ omega arith
+
+    multiplier-is : multiplierOf (reader .settings) (sums .nested .«object_count») (drainIn s (reader .counts .breaks) (reader .counts .objects) sums)
+        ≡ multiplierAt (g .map) p
+    unfolding multiplierAt
+    multiplier-is = simp (sees .settings, objects-is, drain-is)
+
+    -- the attributes from the sums are those of the map
+    pub end-map : (m : ℕ)
+        → m ≡ multiplierOf (reader .settings) (sums .nested .«object_count») (drainIn s (reader .counts .breaks) (reader .counts .objects) sums)
+        → simulated.Map (scoreAttributesOf (times m (sums .score)) (sums .nested) m) ≡ simulatedOf (fileOf s) p
+    unfolding sumsOf scoreAttributesAt
+    end-map m q =
+        let os = take p (g .map .objects) in
+        let is : m ≡ multiplierAt (g .map) p = q ∙ multiplier-is in
+        let walked : times m (after 1 fresh os) ≡ after m fresh os = sym (ap (λ (st : State). after m st os) (fresh-times m) ∙ after-times m fresh os) in
+        rw file-is
+        (ap (λ (x : Sums). simulated.Map (scoreAttributesOf (times m (x .score)) (x .nested) m)) (k .same)
+        ∙ ap (λ (st : State). simulated.Map (scoreAttributesOf st (countedAll noObject os) m)) walked
+        ∙ ap (λ (n : ℕ). simulated.Map (scoreAttributesOf (after n fresh os) (countedAll noObject os) n)) is)

@@ -1,0 +1,56 @@
+-- Each field is that of the state or of the counts, which their limits hold in 32 bits, and the product fits.
+use Rattle.simulator.specs.Attributes.{difficultyAttributesOf}
+use Rattle.simulator.proofs.Bounds.{product-fits}
+use borrow.Author.Needs.{needs}
+use Rattle.simulator.proofs.attributes.difficulty_attributes.Statement.{statement}
+use Rattle.simulator.proofs.attributes.difficulty_attributes.Tie as tie
+
+cast-t4 : tie.Need-cast-t4
+cast-t4 c = search needs
+
+cast-t5 : tie.Need-cast-t5
+cast-t5 c = search needs
+
+cast-t6 : tie.Need-cast-t6
+cast-t6 c = search needs
+
+cast-t7 : tie.Need-cast-t7
+cast-t7 c = search needs
+
+cast-t8 : tie.Need-cast-t8
+cast-t8 c = search needs
+
+cast-t9 : tie.Need-cast-t9
+cast-t9 c = search needs
+
+calculate-requires : tie.Need-calculate-requires
+calculate-requires c κs = search needs
+
+nearest-u64-to-f64-requires : tie.Need-nearest-u64-to-f64-requires
+nearest-u64-to-f64-requires c κs = search needs
+
+mul-nearest-u64-to-f64 : tie.Need-mul-nearest-u64-to-f64
+mul-nearest-u64-to-f64 c = record { fits = product-fits _ _ (c .before .before .before .before .before .before .before .before .before .pre .0 .points) (c .before .before .before .before .before .before .before .before .before .pre .2) }
+
+nearest-u64-to-f64-requires-2 : tie.Need-nearest-u64-to-f64-requires-2
+nearest-u64-to-f64-requires-2 c κs = search needs
+
+returns : tie.Need-returns
+unfolding difficultyAttributesOf
+returns c = simp (c .before .before .nearest-u64-to-f64 .ensures, c .nearest-u64-to-f642 .ensures, c .before .before .before .calculate .ensures)
+
+pub difficulty-attributes-spec : {M : Type 1} → statement M
+difficulty-attributes-spec =
+    tie.close
+    (tie.spec
+    cast-t4
+    cast-t5
+    cast-t6
+    cast-t7
+    cast-t8
+    cast-t9
+    calculate-requires
+    nearest-u64-to-f64-requires
+    mul-nearest-u64-to-f64
+    nearest-u64-to-f64-requires-2
+    returns)

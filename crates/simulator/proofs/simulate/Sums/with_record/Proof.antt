@@ -1,0 +1,48 @@
+-- Only an object changes the sums.
+use mathlib.Core.Path.{sym, ap, subst, _∙_}
+use Rattle.simulator.specs.Limits.{Room}
+use Rattle.simulator.specs.Sums.{withRecord}
+use borrow.Author.Needs.{needs}
+use Rattle.simulator.proofs.simulate.Sums.with_record.Statement.{statement}
+use Rattle.simulator.proofs.simulate.Sums.with_record.Tie as tie
+
+enum-known-item : tie.Need-enum-known-item
+enum-known-item c = search needs
+
+with-object-requires : tie.Need-with-object-requires
+with-object-requires c κs = subst (Room (c .before .before .before .args .self)) (c .before .item .given .1) (c .before .before .before .pre)
+
+enum-told : tie.Need-enum-told
+enum-told c = search needs
+
+enum-told-2 : tie.Need-enum-told-2
+enum-told-2 c = search needs
+
+enum-told-3 : tie.Need-enum-told-3
+enum-told-3 c = search needs
+
+returns : tie.Need-returns
+returns c = c .with-object .ensures ∙ sym (ap (withRecord (c .before .before .before .before .args .passed) (c .before .before .before .before .args .place) (c .before .before .before .before .args .self)) (c .before .before .item .given .1))
+
+returns-2 : tie.Need-returns-2
+returns-2 c = search needs
+
+returns-3 : tie.Need-returns-3
+returns-3 c = search needs
+
+returns-4 : tie.Need-returns-4
+returns-4 c = search needs
+
+pub with-record-spec : {M : Type 1} → statement M
+with-record-spec =
+    tie.close
+    (tie.spec
+    enum-known-item
+    with-object-requires
+    enum-told
+    enum-told-2
+    enum-told-3
+    returns
+    returns-2
+    returns-3
+    returns-4)

@@ -1,0 +1,93 @@
+-- The loop keeps the sums of the objects read so far; at the end they give the attributes of the map.
+use mathlib.Core.Path.{ap, _∙_}
+use Prim.Native.Nat.{_-_}
+use native.Mathlib.Omega.{arith}
+use denote.Ref.{now}
+use borrow.Author.Needs.{needs}
+use lib.ListN.{length}
+use Rattle.records.proofs.Laws.{so}
+use Rattle.ruleset.specs.Stars.{multiplierOf}
+use Rattle.ruleset.proofs.Signs.{kept}
+use Rattle.simulator.specs.declared.simulate.Simulated.the-variants.{Map}
+use Rattle.simulator.proofs.Summing.{Summing, summing-start, summing-room, summing-step, summing-ahead, summing-stop, end-none, end-settings, end-breaks, end-within, end-counted, end-map}
+use Rattle.simulator.proofs.simulate.simulate.Statement.{statement}
+use Rattle.simulator.proofs.simulate.simulate.Tie as tie
+
+abbrev Inv-loop : tie.InvT-loop
+Inv-loop s passed reader₀ sums₀ reader sums = Summing s passed reader sums
+
+abbrev μ-loop : tie.MeasureT-loop
+μ-loop s passed reader₀ sums₀ reader sums = length s - reader .at
+
+new-requires : tie.Need-new-requires Inv-loop μ-loop
+new-requires c κs = tt
+
+new-requires-2 : tie.Need-new-requires-2 Inv-loop μ-loop
+new-requires-2 c κs = tt
+
+loop-holds : tie.Need-loop-holds Inv-loop μ-loop
+loop-holds c = rw (c .before .new .ensures, c .new2 .ensures) (summing-start (now (c .before .before .before .args .s)) (c .before .before .before .args .passed))
+
+read-record-requires : tie.Need-read-record-requires Inv-loop μ-loop
+read-record-requires c κs = tt
+
+enum-known-item : tie.Need-enum-known-item Inv-loop μ-loop
+enum-known-item c = search needs
+
+with-record-requires : tie.Need-with-record-requires Inv-loop μ-loop
+with-record-requires c κs = summing-room (c .before .before .before .before .before .before .loop .inv) (c .before .before .before .before .if1 .taken) _ _ (so (c .before .item .given .1) (c .before .before .before .read-record .ensures))
+
+loop-less : tie.Need-loop-less Inv-loop μ-loop
+loop-less c = let a = summing-ahead (c .before .before .before .before .before .before .before .loop .inv) (c .before .before .before .before .before .if1 .taken) _ _ (so (c .before .before .item .given .1) (c .before .before .before .before .read-record .ensures)) in let h = c .before .before .before .before .before .if1 .taken in omega (arith, a, h)
+
+loop-again : tie.Need-loop-again Inv-loop μ-loop
+loop-again c = summing-step (c .before .before .before .before .before .before .before .loop .inv) (c .before .before .before .before .before .if1 .taken) _ _ (so (c .before .before .item .given .1) (c .before .before .before .before .read-record .ensures)) _ (c .with-record .ensures)
+
+enum-known-number : tie.Need-enum-known-number Inv-loop μ-loop
+enum-known-number c = search needs
+
+returns : tie.Need-returns Inv-loop μ-loop
+returns c = summing-stop (c .before .before .before .before .before .before .loop .inv) (c .before .before .before .before .if1 .taken) _ _ (so (c .before .number .given .1) (c .before .before .before .read-record .ensures))
+
+returns-2 : tie.Need-returns-2 Inv-loop μ-loop
+returns-2 c = end-none (c .before .before .before .before .loop .inv) (c .before .before .if1 .left) (c .if2 .taken)
+
+drain-in-requires : tie.Need-drain-in-requires Inv-loop μ-loop
+drain-in-requires c κs = end-breaks (c .before .before .before .before .loop .inv) (c .before .before .if1 .left) (c .if2 .left)
+
+score-multiplier-requires : tie.Need-score-multiplier-requires Inv-loop μ-loop
+score-multiplier-requires c κs =
+    let e = kept (c .drain-in .result) (omega arith) in
+    let n = end-counted (c .before .before .before .before .before .loop .inv) (c .before .before .before .if1 .left) (c .before .if2 .left) .objects in
+    (end-settings (c .before .before .before .before .before .loop .inv) (c .before .before .before .if1 .left) (c .before .if2 .left), omega (arith, n), rw e (omega arith))
+
+score-attributes-requires : tie.Need-score-attributes-requires Inv-loop μ-loop
+score-attributes-requires c κs = (end-within (c .before .before .before .before .before .before .loop .inv) (c .before .before .before .before .if1 .left) (c .before .before .if2 .left), end-counted (c .before .before .before .before .before .before .loop .inv) (c .before .before .before .before .if1 .left) (c .before .before .if2 .left), c .score-multiplier .ensures .1)
+
+returns-3 : tie.Need-returns-3 Inv-loop μ-loop
+returns-3 c =
+    let e = kept (c .before .before .drain-in .result) (omega arith) ∙ c .before .before .drain-in .ensures .0 in
+    let m = c .before .score-multiplier .ensures .0 ∙ ap (multiplierOf (c .before .before .before .before .before .before .before .loop .reader .settings) (c .before .before .before .before .before .before .before .loop .sums .nested .«object_count»)) e in
+    ap Map (c .score-attributes .ensures) ∙ end-map (c .before .before .before .before .before .before .before .loop .inv) (c .before .before .before .before .before .if1 .left) (c .before .before .before .if2 .left) _ m
+
+pub simulate-spec : {M : Type 1} → statement M
+simulate-spec =
+    tie.close
+    (tie.spec
+    Inv-loop
+    μ-loop
+    new-requires
+    new-requires-2
+    loop-holds
+    read-record-requires
+    enum-known-item
+    with-record-requires
+    loop-less
+    loop-again
+    enum-known-number
+    returns
+    returns-2
+    drain-in-requires
+    score-multiplier-requires
+    score-attributes-requires
+    returns-3)

@@ -1,0 +1,8 @@
+pub mod Hits
+pub mod Walk
+pub mod Nested
+pub mod Attributes
+pub mod Limits
+pub mod View
+pub mod Sums
+mod Runs

@@ -1,0 +1,40 @@
+-- The most that n objects add up to: a bound for every sum of the running state and of the counts.
+use Prim.Native.Nat.{ℕ, _+_, _*_, _≤_, _^_}
+use Rattle.simulator.specs.Walk.{State}
+use Rattle.simulator.specs.declared.legacy_score.NestedScorePerObject.{NestedScorePerObject}
+use Rattle.records.specs.declared.hit_object.HitObjectKind.{HitObjectKind}
+use Rattle.records.specs.declared.hit_object.HitObjectKind.the-variants as kind
+use Rattle.simulator.specs.declared.simulate.Sums.{Sums}
+use Rattle.records.specs.declared.record.Record.{Record}
+use Rattle.records.specs.declared.record.Record.the-variants as record·case
+
+-- an object raises the combo by at most 1,001, a slider's head, 999 items and tail, and gives at most 30 for each of these and 300. The combo
+-- of 8,192 objects is at most 8,200,192. Of a spinner's at most 2 ^ 31 half spins each gives at most 1,100 and 50.
+pub record Within (n : ℕ) (st : State) : Type 0 where
+  pub combo : st .combo ≤ 1001 * n
+  pub accuracy : st .«accuracy_score» ≤ 30330 * n
+  pub points : st .«combo_score» ≤ 12 * 8200192 * n
+  pub legacy : st .«legacy_bonus_score» .0 ≤ 1100 * 2 ^ 31 * n
+  pub standardised : st .«standardised_bonus_score» .0 ≤ 50 * 2 ^ 31 * n
+
+pub record Counted (n : ℕ) (c : NestedScorePerObject) : Type 0 where
+  pub objects : c .«object_count» ≤ n
+  pub circles : c .«n_circles» ≤ n
+  pub sliders : c .«n_sliders» ≤ n
+  pub spinners : c .«n_spinners» ≤ n
+  pub repeats : c .«n_repeats» ≤ 1001 * n
+  pub ticks : c .«amount_of_small_ticks» ≤ 1001 * n
+  pub spun : c .«spinner_score» ≤ 1100 * 2 ^ 31 * n
+
+-- the nested items of an object, its tail included
+abbrev pub nestedCount : HitObjectKind → ℕ
+nestedCount kind.Circle = 0
+nestedCount (kind.Slider s) = s .repeats + s .ticks + 1
+nestedCount (kind.Spinner s) = 0
+
+-- there is room for one more record: for an object, in each sum
+abbrev pub Room : Sums → Record → Type 0
+Room sums (record·case.Header s) = Unit
+Room sums (record·case.Break b) = Unit
+Room sums (record·case.Object o) = Within 8191 (sums .score) × Counted 8191 (sums .nested) × (nestedCount (o .kind) ≤ 1000)
+Room sums (record·case.Play p) = Unit

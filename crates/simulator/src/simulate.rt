@@ -1,0 +1,132 @@
+// The score attributes of a map file's first objects.
+use crate::attributes::ScoreAttributes;
+use crate::attributes::score_attributes;
+use crate::legacy_score::NestedScorePerObject;
+use crate::legacy_score_simulator::OsuLegacyScoreSimulator;
+use records::file::Reader;
+use records::file::Step;
+use records::file::read_record;
+use records::hit_object::HitObject;
+use records::record::Record;
+use ruleset::score_multiplier::break_len_in;
+use ruleset::score_multiplier::drain_len;
+use ruleset::score_multiplier::score_multiplier;
+ghost use mathlib.Core.Path.{_≡_};
+ghost use mathlib.Core.List.{[]};
+ghost use Prim.Native.Nat.{_≤_, _<_, _^_};
+ghost use lib.Signed.{mag};
+ghost use Rattle.records.specs.File.{fileOf};
+ghost use Rattle.simulator.specs.Limits.{Within, Counted, nestedCount, Room};
+ghost use Rattle.simulator.specs.Sums.{sumsOf, atFirst, withObject, withRecord, drainIn, simulatedOf};
+
+// What the first `passed` objects add up to, with the starts of the map's first object and of the last one that counts.
+pub struct Sums {
+    pub score: OsuLegacyScoreSimulator,
+    pub nested: NestedScorePerObject,
+    pub first_start: f64,
+    pub last_start: f64,
+}
+
+pub enum Simulated {
+    Map(ScoreAttributes),
+    Refused { number: u8, offset: usize },
+}
+
+fn at_first(place: u64, start: f64, former: f64) -> f64
+    ensures { λ r. ⌜ r ≡ atFirst place start former ⌝ }
+{
+    if place == 0 { start } else { former }
+}
+
+impl Sums {
+    pub fn new(passed: u64) -> Self
+        ensures { λ r. ⌜ r ≡ sumsOf passed [] ⌝ }
+    {
+        Sums {
+            score: OsuLegacyScoreSimulator::new(),
+            nested: NestedScorePerObject::new(),
+            first_start: 0.0,
+            last_start: 0.0,
+        }
+    }
+
+    // With the object at a place. One that is not passed gives only the starts, if it is the first.
+    pub fn with_object(self, object: HitObject, place: u64, passed: u64) -> Self
+        requires { ⌜ Within 8191 (self .score) × Counted 8191 (self .nested) × (nestedCount (object .kind) ≤ 1000) ⌝ }
+        ensures { λ r. ⌜ r ≡ withObject passed place self object ⌝ }
+    {
+        let score = self.score;
+        let nested = self.nested;
+        let start = object.start_time;
+        let first_start = at_first(place, start, self.first_start);
+        if place < passed {
+            return Sums {
+                score: score.step(object),
+                nested: nested.process_next(object),
+                first_start,
+                last_start: start,
+            };
+        }
+        Sums {
+            score,
+            nested,
+            first_start,
+            last_start: at_first(place, start, self.last_start),
+        }
+    }
+
+    fn with_record(self, item: Record, place: u64, passed: u64) -> Self
+        requires { ⌜ Room self item ⌝ }
+        ensures { λ r. ⌜ r ≡ withRecord passed place self item ⌝ }
+    {
+        match item {
+            Record::Object(object) => self.with_object(object, place, passed),
+            Record::Header(_) => self,
+            Record::Break(_) => self,
+            Record::Play(_) => self,
+        }
+    }
+}
+
+// The drain of a map with `objects` objects, whose file starts with the header and `breaks` breaks.
+fn drain_in(s: &[u8], breaks: u64, objects: u64, sums: Sums) -> i64
+    requires { ⌜ breaks ≤ 128 ⌝ }
+    ensures { λ r. ⌜ (r ≡ drainIn (now (s .entry)) breaks objects sums) × (mag r < 2 ^ 53) ⌝ }
+{
+    if objects == 0 {
+        return 0;
+    }
+    let last_start = sums.last_start;
+    drain_len(
+        sums.first_start,
+        last_start,
+        break_len_in(s, breaks, last_start),
+    )
+}
+
+pub fn simulate(s: &[u8], passed: u64) -> Simulated
+    ensures { λ r. ⌜ r ≡ simulatedOf (fileOf (now (s .entry))) passed ⌝ }
+{
+    let mut reader = Reader::new();
+    let mut sums = Sums::new(passed);
+    while reader.at < s.len() {
+        match read_record(s, reader) {
+            Step::Next(item, next) => {
+                sums = sums.with_record(item, reader.counts.objects, passed);
+                reader = next;
+            }
+            Step::Refused { number, offset } => {
+                return Simulated::Refused { number, offset };
+            }
+        }
+    }
+    if reader.counts.last == 0 {
+        return Simulated::Refused {
+            number: 3,
+            offset: 0,
+        };
+    }
+    let drain = drain_in(s, reader.counts.breaks, reader.counts.objects, sums);
+    let multiplier = score_multiplier(reader.settings, sums.nested.object_count, drain);
+    Simulated::Map(score_attributes(sums.score, sums.nested, multiplier))
+}

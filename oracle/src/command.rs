@@ -27,6 +27,7 @@ pub fn run(arguments: &[String]) -> Result<(), String> {
         ["serve", "--library"] => serve::serve(true),
         ["attrs", passed @ ..] => attrs::attrs(passed),
         ["serve-attrs"] => serve::serve_attrs(),
+        ["trace"] => serve::trace(),
         ["spinner"] => spinner::spinner(),
         ["spinner-edges"] => spinner::edges(),
         ["gen", seed, count, to] => generate::good(number(seed)?, number(count)?, to),

@@ -38,6 +38,21 @@ pub fn attributes(read: &Result<MapFile, Refusal>, passed: &[u32]) -> String {
     text
 }
 
+/// The listing with the attributes of each play's passed objects behind its line.
+pub fn trace(read: &Result<MapFile, Refusal>) -> String {
+    let map = match read {
+        Ok(map) => map,
+        Err(refusal) => return refusal_line(refusal),
+    };
+    let original = Original::new(map);
+    let mut text = map_line(&original.attributes(original.object_count()));
+    for (index, play) in map.plays.iter().enumerate() {
+        text += &play_line(index, &original.estimates(play));
+        text += &attributes_line(index, &original.attributes(play.passed.into()));
+    }
+    text
+}
+
 /// The bits in 16 hexadecimal digits, or `nan` whatever its bits.
 pub fn float(value: f64) -> String {
     if value.is_nan() {

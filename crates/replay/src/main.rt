@@ -66,14 +66,6 @@ fn compare(due: Refusal, found: Refusal) -> Row {
     Row::Differ
 }
 
-// Reads the next bytes of the input to the front of the space, and says whether all are there.
-fn read_front(space: &mut [u8], length: usize) -> bool {
-    if space.len() < length {
-        return false;
-    }
-    io::read_full(STDIN_FILENO, &mut space[..length]) == length
-}
-
 fn replay_file(kind: u64, due: Refusal, space: &[u8], length: usize) -> Row {
     if due.number == 9 || due.number == 10 {
         return Row::Unscored;
@@ -91,7 +83,7 @@ fn replay_row(space: &mut [u8]) -> Row {
         return Row::End;
     }
     let length = word_at(&head, 6, 4) as usize;
-    if !read_front(space, length) {
+    if !frames::read_front(space, length) {
         return Row::End;
     }
     let due = Refusal {

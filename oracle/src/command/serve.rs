@@ -3,7 +3,7 @@ use std::io::{self, BufReader, BufWriter, Read, Write};
 use super::output_failed;
 use crate::{
     frame::{read_frame, read_u32, write_frame},
-    listing::{attributes, listing},
+    listing::{attributes, listing, trace as trace_of},
     reader::{read_library, read_program},
 };
 
@@ -22,6 +22,17 @@ pub fn serve_attrs() -> Result<(), String> {
             .collect::<Result<Vec<u32>, _>>()?;
         Ok(attributes(&read_library(file), &passed))
     })
+}
+
+/// The traces of many files, as plain text one after the other.
+pub fn trace() -> Result<(), String> {
+    let mut input = BufReader::new(io::stdin().lock());
+    let mut output = BufWriter::new(io::stdout().lock());
+    while let Some(file) = read_frame(&mut input)? {
+        let text = trace_of(&read_library(&file));
+        output.write_all(text.as_bytes()).map_err(output_failed)?;
+    }
+    output.flush().map_err(output_failed)
 }
 
 fn number(input: &mut impl Read) -> Result<u32, String> {

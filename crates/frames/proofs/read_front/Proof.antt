@@ -2,8 +2,8 @@
 use mathlib.Core.Path.{sym}
 use lib.Seq.{length-take-le}
 use borrow.Author.Needs.{needs}
-use Rattle.replay.proofs.read_front.Statement.{statement}
-use Rattle.replay.proofs.read_front.Tie as tie
+use Rattle.frames.proofs.read_front.Statement.{statement}
+use Rattle.frames.proofs.read_front.Tie as tie
 
 returns : tie.Need-returns
 returns c = search needs

@@ -30,6 +30,7 @@ pub fn run(arguments: &[String]) -> Result<(), String> {
         ["trace"] => serve::trace(),
         ["spinner"] => spinner::spinner(),
         ["spinner-edges"] => spinner::edges(),
+        ["spinner-files"] => spinner::files(),
         ["gen", seed, count, to] => generate::good(number(seed)?, number(count)?, to),
         ["gen-damaged", seed, count, to] => generate::damaged(number(seed)?, number(count)?, to),
         ["answers", seed, count, path] => answers::write(number(seed)?, number(count)?, path),

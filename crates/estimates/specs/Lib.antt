@@ -5,3 +5,4 @@ pub mod Multiplier
 pub mod ScoreBased
 pub mod ComboBased
 pub mod Effective
+pub mod Runs

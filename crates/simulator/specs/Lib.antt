@@ -5,4 +5,3 @@ pub mod Attributes
 pub mod Limits
 pub mod View
 pub mod Sums
-mod Runs

@@ -5,8 +5,10 @@ use std::{
 
 use super::output_failed;
 use crate::{
+    encode::encode,
+    frame::write_frame,
     listing::float,
-    map::{MapFile, Object, ObjectKind},
+    map::{MapFile, Object, ObjectKind, Play},
     spinner::{self, MAX_DURATION, half_spins_possible, half_spins_required},
     values::Original,
 };
@@ -30,17 +32,24 @@ fn duration(digits: &str) -> Option<f64> {
     (0.0..=MAX_DURATION).contains(&duration).then_some(duration)
 }
 
+/// A map of one spinner, with a play that passes it.
+fn map_of(duration: f64) -> MapFile {
+    MapFile {
+        objects: vec![Object {
+            start: 0.0,
+            kind: ObjectKind::Spinner { duration },
+        }],
+        plays: vec![Play {
+            passed: 1,
+            ..Play::default()
+        }],
+        ..MapFile::default()
+    }
+}
+
 /// T and R are locals of the original, so they come from `crate::spinner`; the points are its own.
 fn points(duration: f64) -> String {
-    let objects = vec![Object {
-        start: 0.0,
-        kind: ObjectKind::Spinner { duration },
-    }];
-    let a = Original::new(&MapFile {
-        objects,
-        ..MapFile::default()
-    })
-    .attributes(1);
+    let a = Original::new(&map_of(duration)).attributes(1);
     format!(
         "{} {} {} {} {} {}\n",
         float(duration),
@@ -59,4 +68,13 @@ pub fn edges() -> Result<(), String> {
         writeln!(text, "{bits:016x}").expect("a string takes all text");
     }
     super::write_out(text.as_bytes())
+}
+
+/// For each of these durations a map file, as a frame.
+pub fn files() -> Result<(), String> {
+    let mut output = BufWriter::new(io::stdout().lock());
+    for bits in spinner::edges() {
+        write_frame(&mut output, &encode(&map_of(f64::from_bits(bits))))?;
+    }
+    output.flush().map_err(output_failed)
 }

@@ -4,24 +4,25 @@ use mathlib.Core.List.{List, [], _∷_, _++_, map}
 use Prim.Native.Nat.{ℕ, _+_, _*_}
 use lib.IntN.{ℤ, pos}
 use lib.ListN.{length}
-use lib.Ieee.{binary64, add, mul, div, lt, ofInt, toBits, toUnsigned}
+use lib.Ieee.{binary64, add, sub, mul, div, neg, lt, isNan, ofInt, toBits, toUnsigned}
 use Rattle.numbers.specs.Floats.{whole, _⊘_}
-use Rattle.numbers.specs.MinMax.{clampOf}
 use Rattle.numbers.specs.Rounding.{roundTiesEvenI32}
 use Rattle.spinner.specs.HalfSpins.{totalHalfSpins, requiredHalfSpins}
 use Rattle.records.specs.Objects.{tick, repeat, Kind, circle, slider, spinner, Object, repeats, ticks}
 use Rattle.records.specs.File.{Map}
 use Rattle.ruleset.specs.Drain.{breaksLength, drainAt}
 use Rattle.ruleset.specs.Stars.{ratioOf, starsOf, multiplierAt}
 use Rattle.simulator.specs.Hits.{halfSpins, hitsOf}
 use Rattle.simulator.specs.Walk.{walk, after}
 use Rattle.simulator.specs.Nested.{spinnerScoreOf, counted, countedAll, nestedScoreOf}
 use Rattle.simulator.specs.Attributes.{bonusRatioOf, legacyAttributesOf, difficultyAttributesOf, scoreAttributesOf, scoreAttributesAt}
+use Rattle.estimates.specs.ScoreBased.{comboProductOf, comboPerObjectOf}
+use Rattle.numbers.specs.MinMax.{clampOf, maxOf}
 
 -- what a run says of all objects of a map: drain, multiplier, accuracy, combo points, max combo, T and B of each spinner, legacy bonus,
--- standardised bonus, and the bits of the ratio and of the nested score
+-- standardised bonus, the bits of the ratio and of the nested score, and those of the combo per object where the run tells it
 abbrev Says : Type 0
-Says = ℤ × ℕ × ℕ × ℕ × ℕ × List (ℕ × ℕ) × ℕ × ℕ × ℕ × ℕ
+Says = ℤ × ℕ × ℕ × ℕ × ℕ × List (ℕ × ℕ) × ℕ × ℕ × ℕ × ℕ × List ℕ
 
 -- the settings, all three alike, the objects, and what is said of them
 record Run : Type 0 where
@@ -41,29 +42,29 @@ three = at 0 circle ∷ at 5000 circle ∷ at 10000 circle ∷ []
 table : List Run
 table =
     -- (1) no objects: sums 0, nested nan
-    run 5 [] (pos 0, 4, 0, 0, 0, [], 0, 0, 0, 0x7ff8_0000_0000_0000)
+    run 5 [] (pos 0, 4, 0, 0, 0, [], 0, 0, 0, 0x7ff8_0000_0000_0000, [])
     -- (2) one circle: combo 1, accuracy 300, combo points 0
-    ∷ run 5 (at 0 circle ∷ []) (pos 0, 4, 300, 0, 1, [], 0, 0, 0, 0)
+    ∷ run 5 (at 0 circle ∷ []) (pos 0, 4, 300, 0, 1, [], 0, 0, 0, 0, [])
     -- (3) two circles: combo points 0
-    ∷ run 5 (at 0 circle ∷ at 10000 circle ∷ []) (pos 10, 2, 600, 0, 2, [], 0, 0, 0, 0)
+    ∷ run 5 (at 0 circle ∷ at 10000 circle ∷ []) (pos 10, 2, 600, 0, 2, [], 0, 0, 0, 0, [])
     -- (4) circle, slider (tick, repeat, tick, tail), circle: accuracy 1010, combo 7, combo points 120 × multiplier
     ∷ run 5 (at 0 circle ∷ at 5000 (slider (tick ∷ repeat ∷ tick ∷ [])) ∷ at 10000 circle ∷ [])
-    (pos 10, 2, 1010, 120 * 2, 7, [], 0, 0, 0, 0x4042_5555_5555_5555)
+    (pos 10, 2, 1010, 120 * 2, 7, [], 0, 0, 0, 0x4042_5555_5555_5555, [])
     -- (5) stands with the board
     -- (6) spinner 0: bonus 0, ratio 0
-    ∷ run 5 (at 0 (spinner (whole 0)) ∷ []) (pos 0, 4, 300, 0, 1, (0, 3) ∷ [], 0, 0, 0, 0)
+    ∷ run 5 (at 0 (spinner (whole 0)) ∷ []) (pos 0, 4, 300, 0, 1, (0, 3) ∷ [], 0, 0, 0, 0, [])
     -- (7) spinner 1000: T 15, B 6, legacy 4700, standardised 230, nested 1700
     ∷ run 5 (at 0 (spinner (whole 1000)) ∷ [])
-    (pos 0, 4, 300, 0, 1, (15, 6) ∷ [], 4700, 230, toBits binary64 (whole 230 ⊘ whole 4700), toBits binary64 (whole 1700))
+    (pos 0, 4, 300, 0, 1, (15, 6) ∷ [], 4700, 230, toBits binary64 (whole 230 ⊘ whole 4700), toBits binary64 (whole 1700), [])
     -- (8) spinner 1400: 8800, 460, 3100
     ∷ run 5 (at 0 (spinner (whole 1400)) ∷ [])
-    (pos 0, 4, 300, 0, 1, (22, 7) ∷ [], 8800, 460, toBits binary64 (whole 460 ⊘ whole 8800), toBits binary64 (whole 3100))
+    (pos 0, 4, 300, 0, 1, (22, 7) ∷ [], 8800, 460, toBits binary64 (whole 460 ⊘ whole 8800), toBits binary64 (whole 3100), [])
     -- (9) settings 5, three objects, starts 0 to 10,000: multiplier 2
-    ∷ run 5 three (pos 10, 2, 900, 12 * 2, 3, [], 0, 0, 0, 0)
+    ∷ run 5 three (pos 10, 2, 900, 12 * 2, 3, [], 0, 0, 0, 0, [])
     -- (10) settings 5, two objects starting 500 then 0: drain 0, multiplier 4
-    ∷ run 5 (at 500 circle ∷ at 0 circle ∷ []) (pos 0, 4, 600, 0, 2, [], 0, 0, 0, 0)
-    -- (11) settings 0, three circles 0, 5,000, 10,000: multiplier 0; its combo per object stands with the estimates
-    ∷ run 0 three (pos 10, 0, 900, 0, 3, [], 0, 0, 0, 0)
+    ∷ run 5 (at 500 circle ∷ at 0 circle ∷ []) (pos 0, 4, 600, 0, 2, [], 0, 0, 0, 0, [])
+    -- (11) settings 0, three circles 0, 5,000, 10,000: multiplier 0, combo per object 3
+    ∷ run 0 three (pos 10, 0, 900, 0, 3, [], 0, 0, 0, 0, toBits binary64 (whole 3) ∷ [])
     ∷ []
 
 -- ---- the same by the definitions
@@ -83,6 +84,11 @@ mapOf r = record {
   objects = r .objects;
 }
 
+-- a value where the run tells it
+abbrev told : List ℕ → ℕ → List ℕ
+told [] x = []
+told (y ∷ l) x = x ∷ []
+
 abbrev worked : Run → Says
 worked r =
     let n = length (r .objects) in
@@ -97,8 +103,9 @@ worked r =
       a .«standardised_bonus_score» .0,
       toBits binary64 (a .legacy .«bonus_score_ratio»),
       toBits binary64 (a .difficulty .«nested_score_per_object»),
+      told (r .says .10) (toBits binary64 (comboPerObjectOf (a .difficulty))),
     )
 
 right : map worked table ≡ map (λ (r : Run). r .says) table
-unfolding table multiplierAt drainAt breaksLength starsOf ratioOf clampOf roundTiesEvenI32 totalHalfSpins requiredHalfSpins halfSpins hitsOf walk after spinnerScoreOf counted countedAll repeats ticks nestedScoreOf bonusRatioOf legacyAttributesOf difficultyAttributesOf scoreAttributesOf scoreAttributesAt add mul div lt ofInt toBits toUnsigned
+unfolding table multiplierAt drainAt breaksLength starsOf ratioOf clampOf roundTiesEvenI32 totalHalfSpins requiredHalfSpins halfSpins hitsOf walk after spinnerScoreOf counted countedAll repeats ticks nestedScoreOf bonusRatioOf legacyAttributesOf difficultyAttributesOf scoreAttributesOf scoreAttributesAt comboProductOf comboPerObjectOf maxOf add sub mul div lt isNan neg ofInt toBits toUnsigned
 right = refl

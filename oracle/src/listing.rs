@@ -3,13 +3,28 @@
 use std::fmt::Write;
 
 use crate::{
-    map::MapFile,
+    map::{MapFile, Play},
     reader::Refusal,
     values::{Attributes, Estimates, Original},
 };
 
 /// The listing of a read file, or of its refusal.
 pub fn listing(read: &Result<MapFile, Refusal>) -> String {
+    lines(read, |_, _, _| String::new())
+}
+
+/// The listing with the attributes of each play's passed objects behind its line.
+pub fn trace(read: &Result<MapFile, Refusal>) -> String {
+    lines(read, |original, index, play| {
+        attributes_line(index, &original.attributes(play.passed.into()))
+    })
+}
+
+/// The map's line and the plays' lines, each with what belongs behind it.
+fn lines(
+    read: &Result<MapFile, Refusal>,
+    behind: impl Fn(&Original, usize, &Play) -> String,
+) -> String {
     let map = match read {
         Ok(map) => map,
         Err(refusal) => return refusal_line(refusal),
@@ -18,6 +33,7 @@ pub fn listing(read: &Result<MapFile, Refusal>) -> String {
     let mut text = map_line(&original.attributes(original.object_count()));
     for (index, play) in map.plays.iter().enumerate() {
         text += &play_line(index, &original.estimates(play));
+        text += &behind(&original, index, play);
     }
     text
 }
@@ -34,21 +50,6 @@ pub fn attributes(read: &Result<MapFile, Refusal>, passed: &[u32]) -> String {
     let passed = if passed.is_empty() { &of_plays } else { passed };
     for (index, &passed) in passed.iter().enumerate() {
         text += &attributes_line(index, &original.attributes(passed as usize));
-    }
-    text
-}
-
-/// The listing with the attributes of each play's passed objects behind its line.
-pub fn trace(read: &Result<MapFile, Refusal>) -> String {
-    let map = match read {
-        Ok(map) => map,
-        Err(refusal) => return refusal_line(refusal),
-    };
-    let original = Original::new(map);
-    let mut text = map_line(&original.attributes(original.object_count()));
-    for (index, play) in map.plays.iter().enumerate() {
-        text += &play_line(index, &original.estimates(play));
-        text += &attributes_line(index, &original.attributes(play.passed.into()));
     }
     text
 }

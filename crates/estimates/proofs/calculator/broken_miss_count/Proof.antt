@@ -16,11 +16,17 @@ float-requires-2 c κs = search needs
 
 returns : tie.Need-returns
 unfolding brokenOf ofBits ofInt round
-returns c = simp (c .max .ensures, c .before .before .float .ensures, rw (c .before .before .float .ensures) at (c .before .if1 .taken))
+returns c =
+    let at1 = c .before in
+    let at2 = at1 .before in
+    simp (c .max .ensures, at2 .float .ensures, rw (at2 .float .ensures) at (at1 .if1 .taken))
 
 returns-2 : tie.Need-returns-2
 unfolding brokenOf ofBits ofInt round
-returns-2 c = simp (c .float2 .ensures, c .before .before .float .ensures, rw (c .before .before .float .ensures) at (c .before .if1 .left))
+returns-2 c =
+    let at1 = c .before in
+    let at2 = at1 .before in
+    simp (c .float2 .ensures, at2 .float .ensures, rw (at2 .float .ensures) at (at1 .if1 .left))
 
 pub broken-miss-count-spec : {M : Type 1} → statement M
 broken-miss-count-spec =

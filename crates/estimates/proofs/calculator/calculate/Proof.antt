@@ -28,7 +28,19 @@ effective-requires c κs = search needs
 
 returns-2 : tie.Need-returns-2
 unfolding estimatesOf
-returns-2 c = simp (c .effective .ensures, c .before .score-based .ensures, c .before .before .calculate-combo-based-estimated-miss-count .ensures, c .before .before .before .before .before .accuracy .ensures, ne-eqb _ _ (rw (c .before .before .before .before .total-hits .ensures .0) at (c .before .before .before .if1 .left)))
+returns-2 c =
+    let at1 = c .before in
+    let at2 = at1 .before in
+    let at3 = at2 .before in
+    let at4 = at3 .before in
+    let at5 = at4 .before in
+    simp (
+      c .effective .ensures,
+      at1 .score-based .ensures,
+      at2 .calculate-combo-based-estimated-miss-count .ensures,
+      at5 .accuracy .ensures,
+      ne-eqb _ _ (rw (at4 .total-hits .ensures .0) at (at3 .if1 .left)),
+    )
 
 pub calculate-spec : {M : Type 1} → statement M
 calculate-spec =

@@ -26,14 +26,22 @@ classic-miss-count-requires c κs = search needs
 
 returns-2 : tie.Need-returns-2
 unfolding comboBasedOf
-returns-2 c = simp (ne-eqb _ _ (c .before .before .before .if1 .left), so (c .before .before .is-classic .ensures) (c .before .if2 .taken)) (c .classic-miss-count .ensures)
+returns-2 c =
+    let at1 = c .before in
+    let at2 = at1 .before in
+    let at3 = at2 .before in
+    simp (ne-eqb _ _ (at3 .if1 .left), so (at2 .is-classic .ensures) (at1 .if2 .taken)) (c .classic-miss-count .ensures)
 
 lazer-miss-count-requires : tie.Need-lazer-miss-count-requires
 lazer-miss-count-requires c κs = search needs
 
 returns-3 : tie.Need-returns-3
 unfolding comboBasedOf
-returns-3 c = simp (ne-eqb _ _ (c .before .before .before .if1 .left), so (c .before .before .is-classic .ensures) (c .before .if2 .left)) (c .lazer-miss-count .ensures)
+returns-3 c =
+    let at1 = c .before in
+    let at2 = at1 .before in
+    let at3 = at2 .before in
+    simp (ne-eqb _ _ (at3 .if1 .left), so (at2 .is-classic .ensures) (at1 .if2 .left)) (c .lazer-miss-count .ensures)
 
 pub calculate-combo-based-estimated-miss-count-spec : {M : Type 1} → statement M
 calculate-combo-based-estimated-miss-count-spec =

@@ -24,7 +24,20 @@ cap-slider-breaks-requires c κs = search needs
 
 returns : tie.Need-returns
 unfolding classicOf
-returns c = simp (c .cap-slider-breaks .ensures, c .before .min .ensures, c .before .before .float .ensures, c .before .before .before .before .broken-miss-count .ensures, c .before .before .before .before .before .full-combo-threshold .ensures, c .before .before .before .total-imperfect-hits .ensures .0)
+returns c =
+    let at1 = c .before in
+    let at2 = at1 .before in
+    let at3 = at2 .before in
+    let at4 = at3 .before in
+    let at5 = at4 .before in
+    simp (
+      c .cap-slider-breaks .ensures,
+      at1 .min .ensures,
+      at2 .float .ensures,
+      at4 .broken-miss-count .ensures,
+      at5 .full-combo-threshold .ensures,
+      at3 .total-imperfect-hits .ensures .0,
+    )
 
 pub classic-miss-count-spec : {M : Type 1} → statement M
 classic-miss-count-spec =

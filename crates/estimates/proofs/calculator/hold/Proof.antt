@@ -24,7 +24,12 @@ min-requires c κs = search needs
 
 returns : tie.Need-returns
 unfolding heldOf
-returns c = simp (c .min .ensures, c .before .float2 .ensures, c .before .before .before .max .ensures, c .before .before .before .before .float .ensures, c .before .before .total-hits .ensures .0)
+returns c =
+    let at1 = c .before in
+    let at2 = at1 .before in
+    let at3 = at2 .before in
+    let at4 = at3 .before in
+    simp (c .min .ensures, at1 .float2 .ensures, at3 .max .ensures, at4 .float .ensures, at2 .total-hits .ensures .0)
 
 pub hold-spec : {M : Type 1} → statement M
 hold-spec =

@@ -48,7 +48,24 @@ min-requires c κs = search needs
 
 returns : tie.Need-returns
 unfolding lazerOf
-returns c = simp (c .min .ensures, c .before .float2 .ensures, c .before .before .before .broken-miss-count .ensures, c .before .before .before .before .float .ensures, c .before .before .before .before .before .monus3 .ensures, c .before .before .before .before .before .before .before .monus2 .ensures, c .before .before .before .before .before .before .before .before .before .before .monus .ensures, c .before .before .before .before .before .before .before .before .before .large-ticks .ensures .0)
+returns c =
+    let at1 = c .before in
+    let at2 = at1 .before .before in
+    let at3 = at2 .before in
+    let at4 = at3 .before in
+    let at5 = at4 .before .before in
+    let at6 = at5 .before .before in
+    let at7 = at6 .before in
+    simp (
+      c .min .ensures,
+      at1 .float2 .ensures,
+      at2 .broken-miss-count .ensures,
+      at3 .float .ensures,
+      at4 .monus3 .ensures,
+      at5 .monus2 .ensures,
+      at7 .monus .ensures,
+      at6 .large-ticks .ensures .0,
+    )
 
 pub lazer-miss-count-spec : {M : Type 1} → statement M
 lazer-miss-count-spec =

@@ -18,7 +18,10 @@ calculate-requires c κs = search needs
 
 returns-2 : tie.Need-returns-2
 unfolding scoreBasedFor
-returns-2 c = simp (so (c .before .before .before .before .is-classic .ensures) (not-false _ (c .before .before .before .if1 .left))) (c .calculate .ensures)
+returns-2 c =
+    let at1 = c .before .before .before in
+    let at2 = at1 .before in
+    simp (so (at2 .is-classic .ensures) (not-false _ (at1 .if1 .left))) (c .calculate .ensures)
 
 pub score-based-spec : {M : Type 1} → statement M
 score-based-spec = tie.close (tie.spec is-classic-requires returns calculate-requires returns-2)

@@ -21,11 +21,24 @@ float-requires-3 c κs = search needs
 
 returns : tie.Need-returns
 unfolding cappedOf
-returns c = simp (c .float3 .ensures, c .before .before .before .before .max-possible-slider-breaks .ensures .0, rw (c .before .before .float2 .ensures, c .before .before .before .float .ensures, c .before .before .before .before .max-possible-slider-breaks .ensures .0) at (c .before .if1 .taken))
+returns c =
+    let at1 = c .before in
+    let at2 = at1 .before in
+    let at3 = at2 .before in
+    let at4 = at3 .before in
+    simp (
+      c .float3 .ensures,
+      at4 .max-possible-slider-breaks .ensures .0,
+      rw (at2 .float2 .ensures, at3 .float .ensures, at4 .max-possible-slider-breaks .ensures .0) at (at1 .if1 .taken),
+    )
 
 returns-2 : tie.Need-returns-2
 unfolding cappedOf
-returns-2 c = simp (rw (c .before .float2 .ensures, c .before .before .float .ensures, c .before .before .before .max-possible-slider-breaks .ensures .0) at (c .if1 .left))
+returns-2 c =
+    let at1 = c .before in
+    let at2 = at1 .before in
+    let at3 = at2 .before in
+    simp (rw (at1 .float2 .ensures, at2 .float .ensures, at3 .max-possible-slider-breaks .ensures .0) at (c .if1 .left))
 
 pub cap-slider-breaks-spec : {M : Type 1} → statement M
 cap-slider-breaks-spec =

@@ -72,7 +72,50 @@ times-if-requires-9 c κs = search needs
 
 returns : tie.Need-returns
 unfolding scoreMultiplierOf ofBits ofInt round
-returns c = simp (c .times-if9 .ensures, c .before .ap .ensures, c .before .before .rx .ensures, c .before .before .before .times-if8 .ensures, c .before .before .before .before .so .ensures, c .before .before .before .before .before .times-if7 .ensures, c .before .before .before .before .before .before .fl .ensures, c .before .before .before .before .before .before .before .times-if6 .ensures, c .before .before .before .before .before .before .before .before .choose3 .ensures, c .before .before .before .before .before .before .before .before .before .times-if5 .ensures, c .before .before .before .before .before .before .before .before .before .before .choose2 .ensures, c .before .before .before .before .before .before .before .before .before .before .before .hr .ensures, c .before .before .before .before .before .before .before .before .before .before .before .before .times-if4 .ensures, c .before .before .before .before .before .before .before .before .before .before .before .before .before .hd .ensures, c .before .before .before .before .before .before .before .before .before .before .before .before .before .before .times-if3 .ensures, c .before .before .before .before .before .before .before .before .before .before .before .before .before .before .before .times-if2 .ensures, c .before .before .before .before .before .before .before .before .before .before .before .before .before .before .before .before .ez .ensures, c .before .before .before .before .before .before .before .before .before .before .before .before .before .before .before .before .before .times-if .ensures, c .before .before .before .before .before .before .before .before .before .before .before .before .before .before .before .before .before .before .choose .ensures, c .before .before .before .before .before .before .before .before .before .before .before .before .before .before .before .before .before .before .before .nf .ensures, c .before .before .before .before .before .before .before .before .before .before .before .before .before .before .before .before .before .before .before .before .sv2 .ensures)
+returns c =
+    let at1 = c .before in
+    let at2 = at1 .before in
+    let at3 = at2 .before in
+    let at4 = at3 .before in
+    let at5 = at4 .before in
+    let at6 = at5 .before in
+    let at7 = at6 .before in
+    let at8 = at7 .before in
+    let at9 = at8 .before in
+    let at10 = at9 .before in
+    let at11 = at10 .before in
+    let at12 = at11 .before in
+    let at13 = at12 .before in
+    let at14 = at13 .before in
+    let at15 = at14 .before in
+    let at16 = at15 .before in
+    let at17 = at16 .before in
+    let at18 = at17 .before in
+    let at19 = at18 .before in
+    let at20 = at19 .before in
+    simp (
+      c .times-if9 .ensures,
+      at1 .ap .ensures,
+      at2 .rx .ensures,
+      at3 .times-if8 .ensures,
+      at4 .so .ensures,
+      at5 .times-if7 .ensures,
+      at6 .fl .ensures,
+      at7 .times-if6 .ensures,
+      at8 .choose3 .ensures,
+      at9 .times-if5 .ensures,
+      at10 .choose2 .ensures,
+      at11 .hr .ensures,
+      at12 .times-if4 .ensures,
+      at13 .hd .ensures,
+      at14 .times-if3 .ensures,
+      at15 .times-if2 .ensures,
+      at16 .ez .ensures,
+      at17 .times-if .ensures,
+      at18 .choose .ensures,
+      at19 .nf .ensures,
+      at20 .sv2 .ensures,
+    )
 
 pub get-legacy-score-multiplier-spec : {M : Type 1} → statement M
 get-legacy-score-multiplier-spec =

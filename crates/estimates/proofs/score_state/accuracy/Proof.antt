@@ -30,7 +30,11 @@ without-slider-acc-requires c κs = search needs
 
 returns : tie.Need-returns
 unfolding accuracyOf
-returns c = simp (c .before .before .before .enum-told .given .1, c .before .full-weight .ensures, c .before .before .weight .ensures, c .quotient .ensures)
+returns c =
+    let at1 = c .before in
+    let at2 = at1 .before in
+    let at3 = at2 .before in
+    simp (at3 .enum-told .given .1, at1 .full-weight .ensures, at2 .weight .ensures, c .quotient .ensures)
 
 returns-2 : tie.Need-returns-2
 unfolding accuracyOf

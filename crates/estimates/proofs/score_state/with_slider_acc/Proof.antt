@@ -52,7 +52,28 @@ quotient-requires c κs = search needs
 
 returns : tie.Need-returns
 unfolding withSliderAcc ofBits round
-returns c = simp (c .quotient .ensures, c .before .float4 .ensures, c .before .before .float3 .ensures, c .before .before .before .full-weight .ensures, c .before .before .before .before .float2 .ensures, c .before .before .before .before .before .float .ensures, c .before .before .before .before .before .before .weight .ensures, c .before .before .before .before .before .before .before .least2 .ensures, c .before .before .before .before .before .before .before .before .before .least .ensures, c .before .before .before .before .before .before .before .before .before .before .before .before .large-ticks .ensures .0)
+returns c =
+    let at1 = c .before in
+    let at2 = at1 .before in
+    let at3 = at2 .before in
+    let at4 = at3 .before in
+    let at5 = at4 .before in
+    let at6 = at5 .before in
+    let at7 = at6 .before in
+    let at8 = at7 .before .before in
+    let at9 = at8 .before .before .before in
+    simp (
+      c .quotient .ensures,
+      at1 .float4 .ensures,
+      at2 .float3 .ensures,
+      at3 .full-weight .ensures,
+      at4 .float2 .ensures,
+      at5 .float .ensures,
+      at6 .weight .ensures,
+      at7 .least2 .ensures,
+      at8 .least .ensures,
+      at9 .large-ticks .ensures .0,
+    )
 
 pub with-slider-acc-spec : {M : Type 1} → statement M
 with-slider-acc-spec =

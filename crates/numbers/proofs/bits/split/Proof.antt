@@ -18,7 +18,9 @@ use Rattle.numbers.proofs.bits.split.Tie as tie
 -- the value is what its fields stand for
 fields : (c : tie.After-f64-to-bits) →
     (let b = c .f64-to-bits .result in partsOf (ofFields binary64 (signOf b) (fieldOf b) (digitsOf b)) ≡ partsOf (c .before .args .v))
-fields c = ap partsOf (decoded (c .before .args .v) (c .f64-to-bits .result) (subst T (sym (c .before .good .0 .1)) tt) (c .f64-to-bits .ensures))
+fields c =
+    let at1 = c .before in
+    ap partsOf (decoded (at1 .args .v) (c .f64-to-bits .result) (subst T (sym (at1 .good .0 .1)) tt) (c .f64-to-bits .ensures))
 
 f64-to-bits-requires : tie.Need-f64-to-bits-requires
 f64-to-bits-requires c κs = search needs

@@ -20,10 +20,14 @@ shift-ties-even-requires : tie.Need-shift-ties-even-requires
 shift-ties-even-requires c κs = search needs
 
 returns-2 : tie.Need-returns-2
-returns-2 c = omega (arith, closest-shift (c .before .before .before .args .significand) (c .before .before .before .args .exponent) 1074 (omega arith))
+returns-2 c =
+    let at1 = c .before .before .before in
+    omega (arith, closest-shift (at1 .args .significand) (at1 .args .exponent) 1074 (omega arith))
 
 returns-3 : tie.Need-returns-3
-returns-3 c = omega (arith, closest-shift (c .before .before .before .args .significand) (c .before .before .before .args .exponent) 1074 (omega arith))
+returns-3 c =
+    let at1 = c .before .before .before in
+    omega (arith, closest-shift (at1 .args .significand) (at1 .args .exponent) 1074 (omega arith))
 
 pub magnitude-spec : {M : Type 1} → statement M
 magnitude-spec = tie.close (tie.spec returns sub-shift-ties-even shift-ties-even-requires returns-2 returns-3)

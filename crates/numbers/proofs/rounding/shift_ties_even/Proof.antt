@@ -13,7 +13,9 @@ use Rattle.numbers.proofs.rounding.shift_ties_even.Statement.{statement
 use Rattle.numbers.proofs.rounding.shift_ties_even.Tie as tie
 
 returns : tie.Need-returns
-returns c = sym (closest-zero (c .before .args .significand) (2 ^ c .before .args .shift) (lt-of-lt-of-le (omega arith) (pow-mono {i = 54} (c .if1 .taken))))
+returns c =
+    let at1 = c .before in
+    sym (closest-zero (at1 .args .significand) (2 ^ at1 .args .shift) (lt-of-lt-of-le (omega arith) (pow-mono {i = 54} (c .if1 .taken))))
 
 shl-unit : tie.Need-shl-unit
 shl-unit c = search needs
@@ -40,7 +42,9 @@ mul-if3 : tie.Need-mul-if3
 mul-if3 c = omega (arith, and-le-l (c .before .before .args .significand) ((1 * 2 ^ c .before .before .args .shift) % 2 ^ 64 - 1))
 
 add-result : tie.Need-add-result
-add-result c = omega (arith, div-le-self (c .before .before .before .args .significand) (2 ^ c .before .before .before .args .shift))
+add-result c =
+    let at1 = c .before .before .before in
+    omega (arith, div-le-self (at1 .args .significand) (2 ^ at1 .args .shift))
 
 returns-3 : tie.Need-returns-3
 returns-3 c =
@@ -49,7 +53,9 @@ returns-3 c =
     ∙ sym (closest-gt (a .significand) (2 ^ a .shift) (unmasked (λ (r u : ℕ). u < r * 2) (a .significand) (a .shift) (omega arith) (c .if3 .taken)))
 
 add-result-2 : tie.Need-add-result-2
-add-result-2 c = omega (arith, div-le-self (c .before .before .before .args .significand) (2 ^ c .before .before .before .args .shift))
+add-result-2 c =
+    let at1 = c .before .before .before in
+    omega (arith, div-le-self (at1 .args .significand) (2 ^ at1 .args .shift))
 
 returns-4 : tie.Need-returns-4
 returns-4 c =

@@ -52,7 +52,10 @@ next-lt c =
     (omega (arith, c .wide .ensures, c .before .shared-slice-known2 .given (at-start .args .at + (i - 1))))
 
 add-v : tie.Need-add-v Inv-loop μ-loop
-add-v c = omega (arith, next-lt c, bytes-mono (c .before .before .before .before .before .args .n - (c .before .before .before .loop .i - 1)) 8 (omega arith))
+add-v c =
+    let at1 = c .before .before .before in
+    let at2 = at1 .before .before in
+    omega (arith, next-lt c, bytes-mono (at2 .args .n - (at1 .loop .i - 1)) 8 (omega arith))
 
 loop-less : tie.Need-loop-less Inv-loop μ-loop
 loop-less c = omega arith

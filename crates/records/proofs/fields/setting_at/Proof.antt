@@ -14,10 +14,18 @@ f32-from-bits-requires : tie.Need-f32-from-bits-requires
 f32-from-bits-requires c κs = search needs
 
 returns : tie.Need-returns
-returns c = simp (sym (c .before .before .before .word-at .ensures .0), sym (c .before .before .f32-from-bits .ensures), c .before .if1 .taken, c .if2 .taken)
+returns c =
+    let at1 = c .before in
+    let at2 = at1 .before in
+    let at3 = at2 .before in
+    simp (sym (at3 .word-at .ensures .0), sym (at2 .f32-from-bits .ensures), at1 .if1 .taken, c .if2 .taken)
 
 returns-2 : tie.Need-returns-2
-returns-2 c = simp (sym (c .before .before .before .word-at .ensures .0), sym (c .before .before .f32-from-bits .ensures), c .before .if1 .taken, c .if2 .left)
+returns-2 c =
+    let at1 = c .before in
+    let at2 = at1 .before in
+    let at3 = at2 .before in
+    simp (sym (at3 .word-at .ensures .0), sym (at2 .f32-from-bits .ensures), at1 .if1 .taken, c .if2 .left)
 
 returns-3 : tie.Need-returns-3
 returns-3 c = simp (sym (c .before .before .word-at .ensures .0), sym (c .before .f32-from-bits .ensures), c .if1 .left)

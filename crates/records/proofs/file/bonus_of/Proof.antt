@@ -28,7 +28,10 @@ enum-told-5 : tie.Need-enum-told-5
 enum-told-5 c = search needs
 
 returns : tie.Need-returns
-returns c = simp (c .before .before .before .before .before .item .given .1, c .before .before .kind .given .1) (c .bonus .ensures .0)
+returns c =
+    let at1 = c .before .before in
+    let at2 = at1 .before .before .before in
+    simp (at2 .item .given .1, at1 .kind .given .1) (c .bonus .ensures .0)
 
 returns-2 : tie.Need-returns-2
 returns-2 c = search needs

@@ -14,7 +14,11 @@ enum-told-2 : tie.Need-enum-told-2
 enum-told-2 c = search needs
 
 add-t7 : tie.Need-add-t7
-add-t7 c = let h : c .before .before .before .args .c .breaks < 128 = rw (c .before .enum-told2 .given .1) at (c .before .before .before .pre) in omega arith
+add-t7 c =
+    let at1 = c .before in
+    let at2 = at1 .before .before in
+    let h : at2 .args .c .breaks < 128 = rw (at1 .enum-told2 .given .1) at (at2 .pre) in
+    omega arith
 
 enum-told-3 : tie.Need-enum-told-3
 enum-told-3 c = search needs
@@ -26,7 +30,13 @@ bonus-of-requires : tie.Need-bonus-of-requires
 bonus-of-requires c κs = search needs
 
 add-t12 : tie.Need-add-t12
-add-t12 c = let h = rw (c .before .before .before .enum-told3 .given .1) at (c .before .before .before .before .before .pre) in let k = rw (c .before .before .before .enum-told3 .given .1) at (c .before .bonus-of .ensures) in omega (arith, h .1, k)
+add-t12 c =
+    let at1 = c .before in
+    let at2 = at1 .before .before in
+    let at3 = at2 .before .before in
+    let h = rw (at2 .enum-told3 .given .1) at (at3 .pre) in
+    let k = rw (at2 .enum-told3 .given .1) at (at1 .bonus-of .ensures) in
+    omega (arith, h .1, k)
 
 enum-told-4 : tie.Need-enum-told-4
 enum-told-4 c = search needs

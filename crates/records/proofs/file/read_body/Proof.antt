@@ -24,14 +24,22 @@ read-play-requires c κs = search needs
 
 returns-3 : tie.Need-returns-3
 unfolding bodyOf
-returns-3 c = simp (ne-eqb _ _ (c .before .before .before .if1 .left), ne-eqb _ _ (c .before .before .if2 .left), eq-eqb _ _ (c .before .if3 .taken)) (c .read-play .ensures)
+returns-3 c =
+    let at1 = c .before in
+    let at2 = at1 .before in
+    let at3 = at2 .before in
+    simp (ne-eqb _ _ (at3 .if1 .left), ne-eqb _ _ (at2 .if2 .left), eq-eqb _ _ (at1 .if3 .taken)) (c .read-play .ensures)
 
 read-object-requires : tie.Need-read-object-requires
 read-object-requires c κs = search needs
 
 returns-4 : tie.Need-returns-4
 unfolding bodyOf
-returns-4 c = simp (ne-eqb _ _ (c .before .before .before .if1 .left), ne-eqb _ _ (c .before .before .if2 .left), ne-eqb _ _ (c .before .if3 .left)) (c .read-object .ensures)
+returns-4 c =
+    let at1 = c .before in
+    let at2 = at1 .before in
+    let at3 = at2 .before in
+    simp (ne-eqb _ _ (at3 .if1 .left), ne-eqb _ _ (at2 .if2 .left), ne-eqb _ _ (at1 .if3 .left)) (c .read-object .ensures)
 
 pub read-body-spec : {M : Type 1} → statement M
 read-body-spec =

@@ -32,22 +32,51 @@ enum-known-next : tie.Need-enum-known-next Inv-loop μ-loop
 enum-known-next c = search needs
 
 loop-less : tie.Need-loop-less Inv-loop μ-loop
-loop-less c = let m = kept-step (now (c .before .before .before .before .before .before .before .before .before .args .s)) (c .before .before .before .before .before .before .loop .inv .file) (c .before .before .before .before .before .before .loop .reader) (c .before .before .before .before .before .before .loop .inv .kept) (c .before .before .before .before .if1 .taken) _ _ (so (c .before .next .given .1) (c .before .before .before .read-record .ensures)) in let h = c .before .before .before .before .if1 .taken in omega (arith, h, m .ahead)
+loop-less c =
+    let at1 = c .before in
+    let at2 = at1 .before .before in
+    let at3 = at2 .before in
+    let at4 = at3 .before .before in
+    let at5 = at4 .before .before .before in
+    let m = kept-step (now (at5 .args .s)) (at4 .loop .inv .file) (at4 .loop .reader) (at4 .loop .inv .kept) (at3 .if1 .taken) _ _ (so (at1 .next .given .1) (at2 .read-record .ensures)) in
+    let h = at3 .if1 .taken in
+    omega (arith, h, m .ahead)
 
 loop-again : tie.Need-loop-again Inv-loop μ-loop
-loop-again c = let m = kept-step (now (c .before .before .before .before .before .before .before .before .before .args .s)) (c .before .before .before .before .before .before .loop .inv .file) (c .before .before .before .before .before .before .loop .reader) (c .before .before .before .before .before .before .loop .inv .kept) (c .before .before .before .before .if1 .taken) _ _ (so (c .before .next .given .1) (c .before .before .before .read-record .ensures)) in record { file = _; kept = m .kept }
+loop-again c =
+    let at1 = c .before in
+    let at2 = at1 .before .before in
+    let at3 = at2 .before in
+    let at4 = at3 .before .before in
+    let at5 = at4 .before .before .before in
+    let m = kept-step (now (at5 .args .s)) (at4 .loop .inv .file) (at4 .loop .reader) (at4 .loop .inv .kept) (at3 .if1 .taken) _ _ (so (at1 .next .given .1) (at2 .read-record .ensures)) in
+    record { file = _; kept = m .kept }
 
 enum-known-number : tie.Need-enum-known-number Inv-loop μ-loop
 enum-known-number c = search needs
 
 returns : tie.Need-returns Inv-loop μ-loop
-returns c = sym (ap answerOf (kept-stop (now (c .before .before .before .before .before .before .before .before .before .args .s)) (c .before .before .before .before .before .before .loop .inv .file) (c .before .before .before .before .before .before .loop .reader) (c .before .before .before .before .before .before .loop .inv .kept) (c .before .before .before .before .if1 .taken) _ _ (so (c .before .number .given .1) (c .before .before .before .read-record .ensures))))
+returns c =
+    let at1 = c .before in
+    let at2 = at1 .before .before in
+    let at3 = at2 .before in
+    let at4 = at3 .before .before in
+    let at5 = at4 .before .before .before in
+    sym (ap answerOf (kept-stop (now (at5 .args .s)) (at4 .loop .inv .file) (at4 .loop .reader) (at4 .loop .inv .kept) (at3 .if1 .taken) _ _ (so (at1 .number .given .1) (at2 .read-record .ensures))))
 
 returns-2 : tie.Need-returns-2 Inv-loop μ-loop
-returns-2 c = end-none (now (c .before .before .before .before .before .before .before .args .s)) (c .before .before .before .before .loop .inv .file) (c .before .before .before .before .loop .reader) (c .before .before .before .before .loop .inv .kept) (c .before .before .if1 .left) (c .if2 .taken)
+returns-2 c =
+    let at1 = c .before .before in
+    let at2 = at1 .before .before in
+    let at3 = at2 .before .before .before in
+    end-none (now (at3 .args .s)) (at2 .loop .inv .file) (at2 .loop .reader) (at2 .loop .inv .kept) (at1 .if1 .left) (c .if2 .taken)
 
 returns-3 : tie.Need-returns-3 Inv-loop μ-loop
-returns-3 c = end-map (now (c .before .before .before .before .before .before .before .args .s)) (c .before .before .before .before .loop .inv .file) (c .before .before .before .before .loop .reader) (c .before .before .before .before .loop .inv .kept) (c .before .before .if1 .left) (c .if2 .left)
+returns-3 c =
+    let at1 = c .before .before in
+    let at2 = at1 .before .before in
+    let at3 = at2 .before .before .before in
+    end-map (now (at3 .args .s)) (at2 .loop .inv .file) (at2 .loop .reader) (at2 .loop .inv .kept) (at1 .if1 .left) (c .if2 .left)
 
 pub read-map-spec : {M : Type 1} → statement M
 read-map-spec =

@@ -39,19 +39,37 @@ enum-known-item : tie.Need-enum-known-item
 enum-known-item c = search needs
 
 add-t15 : tie.Need-add-t15
-add-t15 c = let h = read-size (recordOf (drop (c .before .before .before .before .before .before .before .before .args .reader .at) (now (c .before .before .before .before .before .before .before .before .args .s))) (c .before .before .before .before .before .before .before .before .args .reader .counts)) _ _ (so (c .before .item .given .1) (c .before .before .before .read-next .ensures ∙ ap (λ (l : List ℕ). readOf (recordOf l (c .before .before .before .before .before .before .before .before .args .reader .counts))) (rest-is (now (c .before .before .before .before .before .before .before .before .args .s)) (c .before .before .before .before .before .before .before .before .args .reader .at)))) (drop (c .before .before .before .before .before .before .before .before .args .reader .at) (now (c .before .before .before .before .before .before .before .before .args .s))) (record-sized _ _) in omega (arith, h .1, length-drop (c .before .before .before .before .before .before .before .before .args .reader .at) (now (c .before .before .before .before .before .before .before .before .args .s)))
+add-t15 c =
+    let at1 = c .before in
+    let at2 = at1 .before .before in
+    let at3 = at2 .before .before .before .before .before in
+    let h = read-size (recordOf (drop (at3 .args .reader .at) (now (at3 .args .s))) (at3 .args .reader .counts)) _ _ (so (at1 .item .given .1) (at2 .read-next .ensures ∙ ap (λ (l : List ℕ). readOf (recordOf l (at3 .args .reader .counts))) (rest-is (now (at3 .args .s)) (at3 .args .reader .at)))) (drop (at3 .args .reader .at) (now (at3 .args .s))) (record-sized _ _) in
+    omega (arith, h .1, length-drop (at3 .args .reader .at) (now (at3 .args .s)))
 
 settings-after-requires : tie.Need-settings-after-requires
 settings-after-requires c κs = search needs
 
 count-requires : tie.Need-count-requires
-count-requires c κs = read-fits (recordOf (drop (c .before .before .before .before .before .before .before .before .before .args .reader .at) (now (c .before .before .before .before .before .before .before .before .before .args .s))) (c .before .before .before .before .before .before .before .before .before .args .reader .counts)) _ _ (so (c .before .before .item .given .1) (c .before .before .before .before .read-next .ensures ∙ ap (λ (l : List ℕ). readOf (recordOf l (c .before .before .before .before .before .before .before .before .before .args .reader .counts))) (rest-is (now (c .before .before .before .before .before .before .before .before .before .args .s)) (c .before .before .before .before .before .before .before .before .before .args .reader .at)))) (c .before .before .before .before .before .before .before .before .before .args .reader .counts) (record-fits _ _)
+count-requires c κs =
+    let at1 = c .before .before in
+    let at2 = at1 .before .before in
+    let at3 = at2 .before .before .before .before .before in
+    read-fits (recordOf (drop (at3 .args .reader .at) (now (at3 .args .s))) (at3 .args .reader .counts)) _ _ (so (at1 .item .given .1) (at2 .read-next .ensures ∙ ap (λ (l : List ℕ). readOf (recordOf l (at3 .args .reader .counts))) (rest-is (now (at3 .args .s)) (at3 .args .reader .at)))) (at3 .args .reader .counts) (record-fits _ _)
 
 returns-2 : tie.Need-returns-2
-returns-2 c = read-refused (recordOf (drop (c .before .before .before .before .before .before .before .before .args .reader .at) (now (c .before .before .before .before .before .before .before .before .args .s))) (c .before .before .before .before .before .before .before .before .args .reader .counts)) _ (c .before .before .before .before .before .before .before .before .args .reader) (so (c .before .number .given .1) (c .before .before .before .read-next .ensures ∙ ap (λ (l : List ℕ). readOf (recordOf l (c .before .before .before .before .before .before .before .before .args .reader .counts))) (rest-is (now (c .before .before .before .before .before .before .before .before .args .s)) (c .before .before .before .before .before .before .before .before .args .reader .at))))
+returns-2 c =
+    let at1 = c .before in
+    let at2 = at1 .before .before in
+    let at3 = at2 .before .before .before .before .before in
+    read-refused (recordOf (drop (at3 .args .reader .at) (now (at3 .args .s))) (at3 .args .reader .counts)) _ (at3 .args .reader) (so (at1 .number .given .1) (at2 .read-next .ensures ∙ ap (λ (l : List ℕ). readOf (recordOf l (at3 .args .reader .counts))) (rest-is (now (at3 .args .s)) (at3 .args .reader .at))))
 
 returns-3 : tie.Need-returns-3
-returns-3 c = read-next (recordOf (drop (c .before .before .before .before .before .before .before .before .before .before .args .reader .at) (now (c .before .before .before .before .before .before .before .before .before .before .args .s))) (c .before .before .before .before .before .before .before .before .before .before .args .reader .counts)) _ _ (so (c .before .before .before .item .given .1) (c .before .before .before .before .before .read-next .ensures ∙ ap (λ (l : List ℕ). readOf (recordOf l (c .before .before .before .before .before .before .before .before .before .before .args .reader .counts))) (rest-is (now (c .before .before .before .before .before .before .before .before .before .before .args .s)) (c .before .before .before .before .before .before .before .before .before .before .args .reader .at)))) (c .before .before .before .before .before .before .before .before .before .before .args .reader) _ _ (c .before .settings-after .ensures) (c .count .ensures)
+returns-3 c =
+    let at1 = c .before in
+    let at2 = at1 .before .before in
+    let at3 = at2 .before .before in
+    let at4 = at3 .before .before .before .before .before in
+    read-next (recordOf (drop (at4 .args .reader .at) (now (at4 .args .s))) (at4 .args .reader .counts)) _ _ (so (at2 .item .given .1) (at3 .read-next .ensures ∙ ap (λ (l : List ℕ). readOf (recordOf l (at4 .args .reader .counts))) (rest-is (now (at4 .args .s)) (at4 .args .reader .at)))) (at4 .args .reader) _ _ (at1 .settings-after .ensures) (c .count .ensures)
 
 pub read-record-spec : {M : Type 1} → statement M
 read-record-spec =

@@ -36,7 +36,10 @@ shared-slice-read-b : tie.Need-shared-slice-read-b Inv-loop μ-loop
 shared-slice-read-b c = omega arith
 
 returns-2 : tie.Need-returns-2 Inv-loop μ-loop
-returns-2 c = sym (c .before .before .before .loop .inv .0 ∙ stop (now (c .before .before .before .before .before .before .args .items)) (c .before .before .before .loop .i) _ _ (omega arith) (c .if2 .taken))
+returns-2 c =
+    let at1 = c .before .before .before in
+    let at2 = at1 .before .before .before in
+    sym (at1 .loop .inv .0 ∙ stop (now (at2 .args .items)) (at1 .loop .i) _ _ (omega arith) (c .if2 .taken))
 
 wide-requires : tie.Need-wide-requires Inv-loop μ-loop
 wide-requires c κs = search needs
@@ -51,7 +54,10 @@ loop-less : tie.Need-loop-less Inv-loop μ-loop
 loop-less c = omega arith
 
 loop-again : tie.Need-loop-again Inv-loop μ-loop
-loop-again c = (c .before .before .before .before .loop .inv .0 ∙ step (now (c .before .before .before .before .before .before .before .args .items)) (c .before .before .before .before .loop .i) _ _ _ _ (omega arith) (omega arith) (omega arith) (omega arith), omega arith, omega arith)
+loop-again c =
+    let at1 = c .before .before .before .before in
+    let at2 = at1 .before .before .before in
+    (at1 .loop .inv .0 ∙ step (now (at2 .args .items)) (at1 .loop .i) _ _ _ _ (omega arith) (omega arith) (omega arith) (omega arith), omega arith, omega arith)
 
 shared-slice-read-if3 : tie.Need-shared-slice-read-if3 Inv-loop μ-loop
 shared-slice-read-if3 c = omega arith
@@ -60,10 +66,18 @@ sub-t15 : tie.Need-sub-t15 Inv-loop μ-loop
 sub-t15 c = omega arith
 
 returns-3 : tie.Need-returns-3 Inv-loop μ-loop
-returns-3 c = let e : c .before .before .before .loop .i ≡ length (now (c .before .before .before .before .before .before .args .items)) - 1 = omega arith in sym (c .before .before .before .loop .inv .0 ∙ tail (now (c .before .before .before .before .before .before .args .items)) (c .before .before .before .loop .i) _ _ (omega arith) (ap (λ (i : ℕ). getD (now (c .before .before .before .before .before .before .args .items)) i 0) e ∙ c .if3 .taken) ∙ ap (λ (i : ℕ). Counts (record { repeats = c .before .before .before .loop .repeats; ticks = i - c .before .before .before .loop .repeats })) e)
+returns-3 c =
+    let at1 = c .before .before .before in
+    let at2 = at1 .before .before .before in
+    let e : at1 .loop .i ≡ length (now (at2 .args .items)) - 1 = omega arith in
+    sym (at1 .loop .inv .0 ∙ tail (now (at2 .args .items)) (at1 .loop .i) _ _ (omega arith) (ap (λ (i : ℕ). getD (now (at2 .args .items)) i 0) e ∙ c .if3 .taken) ∙ ap (λ (i : ℕ). Counts (record { repeats = at1 .loop .repeats; ticks = i - at1 .loop .repeats })) e)
 
 returns-4 : tie.Need-returns-4 Inv-loop μ-loop
-returns-4 c = let e : c .before .before .before .loop .i ≡ length (now (c .before .before .before .before .before .before .args .items)) - 1 = omega arith in sym (c .before .before .before .loop .inv .0 ∙ no-tail (now (c .before .before .before .before .before .before .args .items)) (c .before .before .before .loop .i) _ _ (omega arith) (λ k. c .if3 .left (ap (λ (i : ℕ). getD (now (c .before .before .before .before .before .before .args .items)) i 0) (sym e) ∙ k)))
+returns-4 c =
+    let at1 = c .before .before .before in
+    let at2 = at1 .before .before .before in
+    let e : at1 .loop .i ≡ length (now (at2 .args .items)) - 1 = omega arith in
+    sym (at1 .loop .inv .0 ∙ no-tail (now (at2 .args .items)) (at1 .loop .i) _ _ (omega arith) (λ k. c .if3 .left (ap (λ (i : ℕ). getD (now (at2 .args .items)) i 0) (sym e) ∙ k)))
 
 pub count-nested-spec : {M : Type 1} → statement M
 count-nested-spec =

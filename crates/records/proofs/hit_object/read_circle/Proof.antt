@@ -23,11 +23,18 @@ enum-told c = search needs
 
 returns-2 : tie.Need-returns-2
 unfolding circleOf _>>=_ _>>_ refuse_when_
-returns-2 c = simp (le-ltb _ _ (c .before .before .before .if1 .left), so (c .before .before .time-at .ensures) (c .enum-told .given .1))
+returns-2 c =
+    let at1 = c .before .before in
+    let at2 = at1 .before in
+    simp (le-ltb _ _ (at2 .if1 .left), so (at1 .time-at .ensures) (c .enum-told .given .1))
 
 returns-3 : tie.Need-returns-3
 unfolding circleOf _>>=_ _>>_ refuse_when_
-returns-3 c = simp (le-ltb _ _ (c .before .before .before .before .if1 .left), so (c .before .before .before .time-at .ensures) (c .before .start-time .given .1))
+returns-3 c =
+    let at1 = c .before in
+    let at2 = at1 .before .before in
+    let at3 = at2 .before in
+    simp (le-ltb _ _ (at3 .if1 .left), so (at2 .time-at .ensures) (at1 .start-time .given .1))
 
 pub read-circle-spec : {M : Type 1} → statement M
 read-circle-spec =

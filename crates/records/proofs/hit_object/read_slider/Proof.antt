@@ -29,21 +29,46 @@ enum-told c = search needs
 
 returns-2 : tie.Need-returns-2
 unfolding sliderOf _>>=_ _>>_ refuse_when_
-returns-2 c = simp (le-ltb _ _ (c .before .before .before .if1 .left), so (c .before .before .time-at .ensures) (c .enum-told .given .1))
+returns-2 c =
+    let at1 = c .before .before in
+    let at2 = at1 .before in
+    simp (le-ltb _ _ (at2 .if1 .left), so (at1 .time-at .ensures) (c .enum-told .given .1))
 
 word-at-requires : tie.Need-word-at-requires
 word-at-requires c κs = search needs
 
 returns-3 : tie.Need-returns-3
 unfolding sliderOf _>>=_ _>>_ refuse_when_
-returns-3 c = simp (le-ltb _ _ (c .before .before .before .before .before .before .if1 .left), so (c .before .before .before .before .before .time-at .ensures) (c .before .before .before .start-time .given .1), sym (c .before .word-at .ensures .0), lt-ltb _ _ (c .if2 .taken))
+returns-3 c =
+    let at1 = c .before in
+    let at2 = at1 .before .before in
+    let at3 = at2 .before .before in
+    let at4 = at3 .before in
+    simp (
+      le-ltb _ _ (at4 .if1 .left),
+      so (at3 .time-at .ensures) (at2 .start-time .given .1),
+      sym (at1 .word-at .ensures .0),
+      lt-ltb _ _ (c .if2 .taken),
+    )
 
 add-end : tie.Need-add-end
 add-end c = search needs
 
 returns-4 : tie.Need-returns-4
 unfolding sliderOf _>>=_ _>>_ refuse_when_
-returns-4 c = simp (le-ltb _ _ (c .before .before .before .before .before .before .before .if1 .left), so (c .before .before .before .before .before .before .time-at .ensures) (c .before .before .before .before .start-time .given .1), sym (c .before .before .word-at .ensures .0), le-ltb _ _ (c .before .if2 .left), lt-ltb _ _ (c .if3 .taken))
+returns-4 c =
+    let at1 = c .before in
+    let at2 = at1 .before in
+    let at3 = at2 .before .before in
+    let at4 = at3 .before .before in
+    let at5 = at4 .before in
+    simp (
+      le-ltb _ _ (at5 .if1 .left),
+      so (at4 .time-at .ensures) (at3 .start-time .given .1),
+      sym (at2 .word-at .ensures .0),
+      le-ltb _ _ (at1 .if2 .left),
+      lt-ltb _ _ (c .if3 .taken),
+    )
 
 sub-count-nested : tie.Need-sub-count-nested
 sub-count-nested c = search needs
@@ -65,11 +90,46 @@ enum-told-2 c = search needs
 
 returns-5 : tie.Need-returns-5
 unfolding sliderOf _>>=_ _>>_ refuse_when_
-returns-5 c = let e : nestedView (nestedOf (take (c .before .before .before .before .before .before .word-at .result) (drop 12 (now (c .before .before .before .before .before .before .before .before .before .before .before .before .before .args .r))))) ≡ Wrong = sym (ap (λ (l : List ℕ). nestedView (nestedOf l)) (part-is (now (c .before .before .before .before .before .before .before .before .before .before .before .before .before .args .r)) (c .before .before .before .before .before .before .word-at .result))) ∙ so (c .before .before .count-nested .ensures) (c .enum-told2 .given .1) in simp (le-ltb _ _ (c .before .before .before .before .before .before .before .before .before .before .before .if1 .left), so (c .before .before .before .before .before .before .before .before .before .before .time-at .ensures) (c .before .before .before .before .before .before .before .before .start-time .given .1), sym (c .before .before .before .before .before .before .word-at .ensures .0), le-ltb _ _ (c .before .before .before .before .before .if2 .left), le-ltb _ _ (c .before .before .before .before .if3 .left), refused-list (take (c .before .before .before .before .before .before .word-at .result) (drop 12 (now (c .before .before .before .before .before .before .before .before .before .before .before .before .before .args .r)))) e)
+returns-5 c =
+    let at1 = c .before .before in
+    let at2 = at1 .before .before in
+    let at3 = at2 .before in
+    let at4 = at3 .before in
+    let at5 = at4 .before .before in
+    let at6 = at5 .before .before in
+    let at7 = at6 .before in
+    let at8 = at7 .before .before in
+    let e : nestedView (nestedOf (take (at4 .word-at .result) (drop 12 (now (at8 .args .r))))) ≡ Wrong = sym (ap (λ (l : List ℕ). nestedView (nestedOf l)) (part-is (now (at8 .args .r)) (at4 .word-at .result))) ∙ so (at1 .count-nested .ensures) (c .enum-told2 .given .1) in
+    simp (
+      le-ltb _ _ (at7 .if1 .left),
+      so (at6 .time-at .ensures) (at5 .start-time .given .1),
+      sym (at4 .word-at .ensures .0),
+      le-ltb _ _ (at3 .if2 .left),
+      le-ltb _ _ (at2 .if3 .left),
+      refused-list (take (at4 .word-at .result) (drop 12 (now (at8 .args .r)))) e,
+    )
 
 returns-6 : tie.Need-returns-6
 unfolding sliderOf _>>=_ _>>_ refuse_when_
-returns-6 c = let e : nestedView (nestedOf (take (c .before .before .before .before .before .before .before .word-at .result) (drop 12 (now (c .before .before .before .before .before .before .before .before .before .before .before .before .before .before .args .r))))) ≡ Counts (c .before .slider .given .0 .0) = sym (ap (λ (l : List ℕ). nestedView (nestedOf l)) (part-is (now (c .before .before .before .before .before .before .before .before .before .before .before .before .before .before .args .r)) (c .before .before .before .before .before .before .before .word-at .result))) ∙ so (c .before .before .before .count-nested .ensures) (c .before .slider .given .1) in simp (le-ltb _ _ (c .before .before .before .before .before .before .before .before .before .before .before .before .if1 .left), so (c .before .before .before .before .before .before .before .before .before .before .before .time-at .ensures) (c .before .before .before .before .before .before .before .before .before .start-time .given .1), sym (c .before .before .before .before .before .before .before .word-at .ensures .0), le-ltb _ _ (c .before .before .before .before .before .before .if2 .left), le-ltb _ _ (c .before .before .before .before .before .if3 .left)) (sym (read-list (nestedOf (take (c .before .before .before .before .before .before .before .word-at .result) (drop 12 (now (c .before .before .before .before .before .before .before .before .before .before .before .before .before .before .args .r))))) _ _ _ e))
+returns-6 c =
+    let at1 = c .before in
+    let at2 = at1 .before .before in
+    let at3 = at2 .before .before in
+    let at4 = at3 .before in
+    let at5 = at4 .before in
+    let at6 = at5 .before .before in
+    let at7 = at6 .before .before in
+    let at8 = at7 .before in
+    let at9 = at8 .before .before in
+    let e : nestedView (nestedOf (take (at5 .word-at .result) (drop 12 (now (at9 .args .r))))) ≡ Counts (at1 .slider .given .0 .0) = sym (ap (λ (l : List ℕ). nestedView (nestedOf l)) (part-is (now (at9 .args .r)) (at5 .word-at .result))) ∙ so (at2 .count-nested .ensures) (at1 .slider .given .1) in
+    simp (
+      le-ltb _ _ (at8 .if1 .left),
+      so (at7 .time-at .ensures) (at6 .start-time .given .1),
+      sym (at5 .word-at .ensures .0),
+      le-ltb _ _ (at4 .if2 .left),
+      le-ltb _ _ (at3 .if3 .left),
+    )
+    (sym (read-list (nestedOf (take (at5 .word-at .result) (drop 12 (now (at9 .args .r))))) _ _ _ e))
 
 pub read-slider-spec : {M : Type 1} → statement M
 read-slider-spec =

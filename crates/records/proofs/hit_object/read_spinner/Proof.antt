@@ -23,7 +23,10 @@ enum-told c = search needs
 
 returns-2 : tie.Need-returns-2
 unfolding spinnerOf _>>=_ _>>_ refuse_when_
-returns-2 c = simp (le-ltb _ _ (c .before .before .before .if1 .left), so (c .before .before .time-at .ensures) (c .enum-told .given .1))
+returns-2 c =
+    let at1 = c .before .before in
+    let at2 = at1 .before in
+    simp (le-ltb _ _ (at2 .if1 .left), so (at1 .time-at .ensures) (c .enum-told .given .1))
 
 duration-at-requires : tie.Need-duration-at-requires
 duration-at-requires c κs = search needs
@@ -36,11 +39,30 @@ enum-told-2 c = search needs
 
 returns-3 : tie.Need-returns-3
 unfolding spinnerOf _>>=_ _>>_ refuse_when_
-returns-3 c = simp (le-ltb _ _ (c .before .before .before .before .before .before .before .if1 .left), so (c .before .before .before .before .before .before .time-at .ensures) (c .before .before .before .before .start-time .given .1), so (c .before .before .duration-at .ensures) (c .enum-told2 .given .1))
+returns-3 c =
+    let at1 = c .before .before in
+    let at2 = at1 .before .before in
+    let at3 = at2 .before .before in
+    let at4 = at3 .before in
+    simp (
+      le-ltb _ _ (at4 .if1 .left),
+      so (at3 .time-at .ensures) (at2 .start-time .given .1),
+      so (at1 .duration-at .ensures) (c .enum-told2 .given .1),
+    )
 
 returns-4 : tie.Need-returns-4
 unfolding spinnerOf _>>=_ _>>_ refuse_when_
-returns-4 c = simp (le-ltb _ _ (c .before .before .before .before .before .before .before .before .if1 .left), so (c .before .before .before .before .before .before .before .time-at .ensures) (c .before .before .before .before .before .start-time .given .1), so (c .before .before .before .duration-at .ensures) (c .before .duration .given .1))
+returns-4 c =
+    let at1 = c .before in
+    let at2 = at1 .before .before in
+    let at3 = at2 .before .before in
+    let at4 = at3 .before .before in
+    let at5 = at4 .before in
+    simp (
+      le-ltb _ _ (at5 .if1 .left),
+      so (at4 .time-at .ensures) (at3 .start-time .given .1),
+      so (at2 .duration-at .ensures) (at1 .duration .given .1),
+    )
 
 pub read-spinner-spec : {M : Type 1} → statement M
 read-spinner-spec =

@@ -48,7 +48,22 @@ cast-t15 c = search needs
 
 returns : tie.Need-returns
 unfolding hitresultsOf
-returns c = simp (c .before .before .before .before .before .before .word-at .ensures .0, c .before .before .before .before .before .word-at2 .ensures .0, c .before .before .before .before .word-at3 .ensures .0, c .before .before .before .word-at4 .ensures .0, c .before .before .word-at5 .ensures .0, c .before .word-at6 .ensures .0, c .word-at7 .ensures .0)
+returns c =
+    let at1 = c .before in
+    let at2 = at1 .before in
+    let at3 = at2 .before in
+    let at4 = at3 .before in
+    let at5 = at4 .before in
+    let at6 = at5 .before in
+    simp (
+      at6 .word-at .ensures .0,
+      at5 .word-at2 .ensures .0,
+      at4 .word-at3 .ensures .0,
+      at3 .word-at4 .ensures .0,
+      at2 .word-at5 .ensures .0,
+      at1 .word-at6 .ensures .0,
+      c .word-at7 .ensures .0,
+    )
 
 pub hitresults-of-spec : {M : Type 1} → statement M
 hitresults-of-spec =

@@ -26,7 +26,11 @@ enum-told c = search needs
 
 returns-2 : tie.Need-returns-2
 unfolding playOf _>>=_ _>>_ refuse_when_
-returns-2 c = simp (le-ltb _ _ (c .before .before .before .before .if1 .left), sym (c .before .before .before .word-at .ensures .0), so (c .before .before .origin-of .ensures) (c .enum-told .given .1))
+returns-2 c =
+    let at1 = c .before .before in
+    let at2 = at1 .before in
+    let at3 = at2 .before in
+    simp (le-ltb _ _ (at3 .if1 .left), sym (at2 .word-at .ensures .0), so (at1 .origin-of .ensures) (c .enum-told .given .1))
 
 word-at-requires-2 : tie.Need-word-at-requires-2
 word-at-requires-2 c κs = search needs
@@ -48,7 +52,22 @@ enum-told-2 c = search needs
 
 returns-3 : tie.Need-returns-3
 unfolding playOf _>>=_ _>>_ refuse_when_
-returns-3 c = simp (le-ltb _ _ (c .before .before .before .before .before .before .before .before .before .before .if1 .left), sym (c .before .before .before .before .before .before .before .before .before .word-at .ensures .0), so (c .before .before .before .before .before .before .before .before .origin-of .ensures) (c .before .before .before .before .before .before .origin .given .1), sym (c .before .before .before .before .word-at2 .ensures .0), sym (c .before .before .before .word-at3 .ensures .0), so (c .before .before .score-of .ensures) (c .enum-told2 .given .1))
+returns-3 c =
+    let at1 = c .before .before in
+    let at2 = at1 .before in
+    let at3 = at2 .before in
+    let at4 = at3 .before .before in
+    let at5 = at4 .before .before in
+    let at6 = at5 .before in
+    let at7 = at6 .before in
+    simp (
+      le-ltb _ _ (at7 .if1 .left),
+      sym (at6 .word-at .ensures .0),
+      so (at5 .origin-of .ensures) (at4 .origin .given .1),
+      sym (at3 .word-at2 .ensures .0),
+      sym (at2 .word-at3 .ensures .0),
+      so (at1 .score-of .ensures) (c .enum-told2 .given .1),
+    )
 
 word-at-requires-4 : tie.Need-word-at-requires-4
 word-at-requires-4 c κs = search needs
@@ -61,7 +80,27 @@ has-unknown-flags-requires c κs = search needs
 
 returns-4 : tie.Need-returns-4
 unfolding playOf _>>=_ _>>_ refuse_when_
-returns-4 c = simp (le-ltb _ _ (c .before .before .before .before .before .before .before .before .before .before .before .before .before .before .if1 .left), sym (c .before .before .before .before .before .before .before .before .before .before .before .before .before .word-at .ensures .0), so (c .before .before .before .before .before .before .before .before .before .before .before .before .origin-of .ensures) (c .before .before .before .before .before .before .before .before .before .before .origin .given .1), sym (c .before .before .before .before .before .before .before .before .word-at2 .ensures .0), sym (c .before .before .before .before .before .before .before .word-at3 .ensures .0), so (c .before .before .before .before .before .before .score-of .ensures) (c .before .before .before .before .legacy-total-score .given .1), sym (c .before .before .word-at4 .ensures .0), so (c .before .has-unknown-flags .ensures) (c .if2 .taken))
+returns-4 c =
+    let at1 = c .before in
+    let at2 = at1 .before in
+    let at3 = at2 .before .before in
+    let at4 = at3 .before .before in
+    let at5 = at4 .before in
+    let at6 = at5 .before in
+    let at7 = at6 .before .before in
+    let at8 = at7 .before .before in
+    let at9 = at8 .before in
+    let at10 = at9 .before in
+    simp (
+      le-ltb _ _ (at10 .if1 .left),
+      sym (at9 .word-at .ensures .0),
+      so (at8 .origin-of .ensures) (at7 .origin .given .1),
+      sym (at6 .word-at2 .ensures .0),
+      sym (at5 .word-at3 .ensures .0),
+      so (at4 .score-of .ensures) (at3 .legacy-total-score .given .1),
+      sym (at2 .word-at4 .ensures .0),
+      so (at1 .has-unknown-flags .ensures) (c .if2 .taken),
+    )
 
 rate-at-requires : tie.Need-rate-at-requires
 rate-at-requires c κs = search needs
@@ -74,7 +113,30 @@ enum-told-3 c = search needs
 
 returns-5 : tie.Need-returns-5
 unfolding playOf _>>=_ _>>_ refuse_when_
-returns-5 c = simp (le-ltb _ _ (c .before .before .before .before .before .before .before .before .before .before .before .before .before .before .before .before .before .if1 .left), sym (c .before .before .before .before .before .before .before .before .before .before .before .before .before .before .before .before .word-at .ensures .0), so (c .before .before .before .before .before .before .before .before .before .before .before .before .before .before .before .origin-of .ensures) (c .before .before .before .before .before .before .before .before .before .before .before .before .before .origin .given .1), sym (c .before .before .before .before .before .before .before .before .before .before .before .word-at2 .ensures .0), sym (c .before .before .before .before .before .before .before .before .before .before .word-at3 .ensures .0), so (c .before .before .before .before .before .before .before .before .before .score-of .ensures) (c .before .before .before .before .before .before .before .legacy-total-score .given .1), sym (c .before .before .before .before .before .word-at4 .ensures .0), so (c .before .before .before .before .has-unknown-flags .ensures) (c .before .before .before .if2 .left), so (c .before .before .rate-at .ensures) (c .enum-told3 .given .1))
+returns-5 c =
+    let at1 = c .before .before in
+    let at2 = at1 .before in
+    let at3 = at2 .before in
+    let at4 = at3 .before in
+    let at5 = at4 .before .before in
+    let at6 = at5 .before .before in
+    let at7 = at6 .before in
+    let at8 = at7 .before in
+    let at9 = at8 .before .before in
+    let at10 = at9 .before .before in
+    let at11 = at10 .before in
+    let at12 = at11 .before in
+    simp (
+      le-ltb _ _ (at12 .if1 .left),
+      sym (at11 .word-at .ensures .0),
+      so (at10 .origin-of .ensures) (at9 .origin .given .1),
+      sym (at8 .word-at2 .ensures .0),
+      sym (at7 .word-at3 .ensures .0),
+      so (at6 .score-of .ensures) (at5 .legacy-total-score .given .1),
+      sym (at4 .word-at4 .ensures .0),
+      so (at3 .has-unknown-flags .ensures) (at2 .if2 .left),
+      so (at1 .rate-at .ensures) (c .enum-told3 .given .1),
+    )
 
 word-at-requires-5 : tie.Need-word-at-requires-5
 word-at-requires-5 c κs = search needs
@@ -93,7 +155,36 @@ hitresults-of-requires c κs = search needs
 
 returns-6 : tie.Need-returns-6
 unfolding playOf _>>=_ _>>_ refuse_when_
-returns-6 c = simp (le-ltb _ _ (c .before .before .before .before .before .before .before .before .before .before .before .before .before .before .before .before .before .before .before .before .before .if1 .left), sym (c .before .before .before .before .before .before .before .before .before .before .before .before .before .before .before .before .before .before .before .before .word-at .ensures .0), so (c .before .before .before .before .before .before .before .before .before .before .before .before .before .before .before .before .before .before .before .origin-of .ensures) (c .before .before .before .before .before .before .before .before .before .before .before .before .before .before .before .before .before .origin .given .1), sym (c .before .before .before .before .before .before .before .before .before .before .before .before .before .before .before .word-at2 .ensures .0), sym (c .before .before .before .before .before .before .before .before .before .before .before .before .before .before .word-at3 .ensures .0), so (c .before .before .before .before .before .before .before .before .before .before .before .before .before .score-of .ensures) (c .before .before .before .before .before .before .before .before .before .before .before .legacy-total-score .given .1), sym (c .before .before .before .before .before .before .before .before .before .word-at4 .ensures .0), so (c .before .before .before .before .before .before .before .before .has-unknown-flags .ensures) (c .before .before .before .before .before .before .before .if2 .left), so (c .before .before .before .before .before .before .rate-at .ensures) (c .before .before .before .before .clock-rate .given .1), sym (c .before .before .word-at5 .ensures .0), sym (c .before .word-at6 .ensures .0), sym (c .hitresults-of .ensures))
+returns-6 c =
+    let at1 = c .before in
+    let at2 = at1 .before in
+    let at3 = at2 .before .before in
+    let at4 = at3 .before .before in
+    let at5 = at4 .before in
+    let at6 = at5 .before in
+    let at7 = at6 .before in
+    let at8 = at7 .before .before in
+    let at9 = at8 .before .before in
+    let at10 = at9 .before in
+    let at11 = at10 .before in
+    let at12 = at11 .before .before in
+    let at13 = at12 .before .before in
+    let at14 = at13 .before in
+    let at15 = at14 .before in
+    simp (
+      le-ltb _ _ (at15 .if1 .left),
+      sym (at14 .word-at .ensures .0),
+      so (at13 .origin-of .ensures) (at12 .origin .given .1),
+      sym (at11 .word-at2 .ensures .0),
+      sym (at10 .word-at3 .ensures .0),
+      so (at9 .score-of .ensures) (at8 .legacy-total-score .given .1),
+      sym (at7 .word-at4 .ensures .0),
+      so (at6 .has-unknown-flags .ensures) (at5 .if2 .left),
+      so (at4 .rate-at .ensures) (at3 .clock-rate .given .1),
+      sym (at2 .word-at5 .ensures .0),
+      sym (at1 .word-at6 .ensures .0),
+      sym (c .hitresults-of .ensures),
+    )
 
 pub read-play-spec : {M : Type 1} → statement M
 read-play-spec =

@@ -24,7 +24,13 @@ round-ties-even-i32-requires c κs = search needs
 
 returns : tie.Need-returns
 unfolding starsOf ofBits ofInt
-returns c = narrow _ (c .round-ties-even-i32 .ok) ∙ c .round-ties-even-i32 .ensures ∙ simp (c .before .object-to-drain-ratio .ensures, c .before .before .f32-to-f643 .ensures, c .before .before .before .f32-to-f642 .ensures, c .before .before .before .before .f32-to-f64 .ensures, kept (c .before .before .before .before .before .args .drain-len) (c .before .before .before .before .before .fits .drain-len .sfits))
+returns c =
+    let at1 = c .before in
+    let at2 = at1 .before in
+    let at3 = at2 .before in
+    let at4 = at3 .before in
+    let at5 = at4 .before in
+    narrow _ (c .round-ties-even-i32 .ok) ∙ c .round-ties-even-i32 .ensures ∙ simp (at1 .object-to-drain-ratio .ensures, at2 .f32-to-f643 .ensures, at3 .f32-to-f642 .ensures, at4 .f32-to-f64 .ensures, kept (at5 .args .drain-len) (at5 .fits .drain-len .sfits))
 
 pub calculate-difficulty-peppy-stars-spec : {M : Type 1} → statement M
 calculate-difficulty-peppy-stars-spec =

@@ -18,11 +18,18 @@ clamp-requires c κs = search needs
 
 returns : tie.Need-returns
 unfolding ofBits ofInt
-returns c = at-zero (c .before .args .object-count) (c .before .args .drain-len) (c .before .fits .drain-len .sfits) (c .if1 .taken)
+returns c =
+    let at1 = c .before in
+    at-zero (at1 .args .object-count) (at1 .args .drain-len) (at1 .fits .drain-len .sfits) (c .if1 .taken)
 
 returns-2 : tie.Need-returns-2
 unfolding ofBits ofInt
-returns-2 c = c .clamp .ensures ∙ simp (c .before .before .nearest-u64-to-f64 .ensures, c .before .nearest-i64-to-f64 .ensures, kept (c .before .before .before .before .args .drain-len) (c .before .before .before .before .fits .drain-len .sfits)) (at-other (c .before .before .before .before .args .object-count) (c .before .before .before .before .args .drain-len) (c .before .before .before .if1 .left))
+returns-2 c =
+    let at1 = c .before in
+    let at2 = at1 .before in
+    let at3 = at2 .before in
+    let at4 = at3 .before in
+    c .clamp .ensures ∙ simp (at2 .nearest-u64-to-f64 .ensures, at1 .nearest-i64-to-f64 .ensures, kept (at4 .args .drain-len) (at4 .fits .drain-len .sfits)) (at-other (at4 .args .object-count) (at4 .args .drain-len) (at3 .if1 .left))
 
 pub object-to-drain-ratio-spec : {M : Type 1} → statement M
 object-to-drain-ratio-spec =

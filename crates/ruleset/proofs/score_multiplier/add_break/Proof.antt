@@ -11,7 +11,10 @@ length-between-requires : tie.Need-length-between-requires
 length-between-requires c κs = search needs
 
 add-result : tie.Need-add-result
-add-result c = simp (kept (c .before .args .total) (omega arith), kept (c .length-between .result) (omega arith)) (sfits-of (omega (arith, mag-add (c .before .args .total) (c .length-between .result))))
+add-result c =
+    let at1 = c .before in
+    simp (kept (at1 .args .total) (omega arith), kept (c .length-between .result) (omega arith))
+    (sfits-of (omega (arith, mag-add (at1 .args .total) (c .length-between .result))))
 
 returns : tie.Need-returns
 returns c =

@@ -46,7 +46,10 @@ add-break-requires : tie.Need-add-break-requires Inv-loop μ-loop
 add-break-requires c κs = omega (arith, c .before .before .before .before .loop .inv .2)
 
 returns : tie.Need-returns Inv-loop μ-loop
-returns c = (stops (c .before .before .before .before .before .before .args .last-start) (toZ w64 (c .before .before .before .before .loop .total)) _ _ _ _ (pair-at (c .before .before .before .before .before .before .args .breaks .now) (c .before .before .before .before .loop .i) (omega arith)) (c .if1 .left) ∙ c .before .before .before .before .loop .inv .1, omega (arith, c .before .before .before .before .loop .inv .2))
+returns c =
+    let at1 = c .before .before .before .before in
+    let at2 = at1 .before .before in
+    (stops (at2 .args .last-start) (toZ w64 (at1 .loop .total)) _ _ _ _ (pair-at (at2 .args .breaks .now) (at1 .loop .i) (omega arith)) (c .if1 .left) ∙ at1 .loop .inv .1, omega (arith, at1 .loop .inv .2))
 
 add-i : tie.Need-add-i Inv-loop μ-loop
 add-i c = omega arith
@@ -64,7 +67,10 @@ loop-again c =
     )
 
 returns-2 : tie.Need-returns-2 Inv-loop μ-loop
-returns-2 c = (no-more (c .before .before .before .args .last-start) (toZ w64 (c .before .loop .total)) _ (pairs-end (c .before .before .before .args .breaks .now) (c .before .loop .i) (omega arith)) ∙ c .before .loop .inv .1, omega (arith, c .before .loop .inv .2))
+returns-2 c =
+    let at1 = c .before in
+    let at2 = at1 .before .before in
+    (no-more (at2 .args .last-start) (toZ w64 (at1 .loop .total)) _ (pairs-end (at2 .args .breaks .now) (at1 .loop .i) (omega arith)) ∙ at1 .loop .inv .1, omega (arith, at1 .loop .inv .2))
 
 pub break-len-spec : {M : Type 1} → statement M
 break-len-spec =

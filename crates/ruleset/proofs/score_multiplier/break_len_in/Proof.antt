@@ -51,7 +51,12 @@ add-break-requires : tie.Need-add-break-requires Inv-loop μ-loop
 add-break-requires c κs = omega (arith, c .before .before .before .before .before .before .loop .inv .3)
 
 returns : tie.Need-returns Inv-loop μ-loop
-returns c = (stops (c .before .before .before .before .before .before .before .before .args .last-start) (toZ w64 (c .before .before .before .before .before .before .loop .total)) _ _ _ _ (record-at (c .before .before .before .before .before .before .before .before .args .s .now) (c .before .before .before .before .before .before .loop .at) (c .before .before .before .before .before .before .before .before .args .count) (c .before .before .before .before .before .before .loop .i) (omega arith)) (sym (ap (λ (x : Float). lt x (c .before .before .before .before .before .before .before .before .args .last-start)) (c .before .f64-from-bits2 .ensures ∙ ap (ofBits binary64) (c .before .before .word-at2 .ensures .0))) ∙ c .if1 .left) ∙ c .before .before .before .before .before .before .loop .inv .2, omega (arith, c .before .before .before .before .before .before .loop .inv .3))
+returns c =
+    let at1 = c .before in
+    let at2 = at1 .before in
+    let at3 = at2 .before .before .before .before in
+    let at4 = at3 .before .before in
+    (stops (at4 .args .last-start) (toZ w64 (at3 .loop .total)) _ _ _ _ (record-at (at4 .args .s .now) (at3 .loop .at) (at4 .args .count) (at3 .loop .i) (omega arith)) (sym (ap (λ (x : Float). lt x (at4 .args .last-start)) (at1 .f64-from-bits2 .ensures ∙ ap (ofBits binary64) (at2 .word-at2 .ensures .0))) ∙ c .if1 .left) ∙ at3 .loop .inv .2, omega (arith, at3 .loop .inv .3))
 
 add-at : tie.Need-add-at Inv-loop μ-loop
 add-at c = omega arith
@@ -79,7 +84,10 @@ loop-again c =
     )
 
 returns-2 : tie.Need-returns-2 Inv-loop μ-loop
-returns-2 c = (no-more (c .before .before .before .args .last-start) (toZ w64 (c .before .loop .total)) _ (records-end (c .before .before .before .args .s .now) (c .before .loop .at) (c .before .before .before .args .count) (c .before .loop .i) (omega arith)) ∙ c .before .loop .inv .2, omega (arith, c .before .loop .inv .3))
+returns-2 c =
+    let at1 = c .before in
+    let at2 = at1 .before .before in
+    (no-more (at2 .args .last-start) (toZ w64 (at1 .loop .total)) _ (records-end (at2 .args .s .now) (at1 .loop .at) (at2 .args .count) (at1 .loop .i) (omega arith)) ∙ at1 .loop .inv .2, omega (arith, at1 .loop .inv .3))
 
 pub break-len-in-spec : {M : Type 1} → statement M
 break-len-in-spec =

@@ -12,10 +12,15 @@ length-between-requires : tie.Need-length-between-requires
 length-between-requires c κs = search needs
 
 sub-result : tie.Need-sub-result
-sub-result c = simp (kept (c .length-between .result) (omega arith), kept (c .before .args .breaks) (omega arith)) (sfits-of (omega (arith, mag-sub (c .length-between .result) (c .before .args .breaks))))
+sub-result c =
+    let at1 = c .before in
+    simp (kept (c .length-between .result) (omega arith), kept (at1 .args .breaks) (omega arith))
+    (sfits-of (omega (arith, mag-sub (c .length-between .result) (at1 .args .breaks))))
 
 div-result : tie.Need-div-result
-div-result c = (omega arith, simp (difference (c .length-between .result) (c .before .args .breaks) (omega arith) (omega arith)) (sfits-of (omega (arith, mag-sub (c .length-between .result) (c .before .args .breaks), mag-quot ((c .length-between .result) -ℤ (c .before .args .breaks))))))
+div-result c =
+    let at1 = c .before in
+    (omega arith, simp (difference (c .length-between .result) (at1 .args .breaks) (omega arith) (omega arith)) (sfits-of (omega (arith, mag-sub (c .length-between .result) (at1 .args .breaks), mag-quot ((c .length-between .result) -ℤ (at1 .args .breaks))))))
 
 returns : tie.Need-returns
 returns c =

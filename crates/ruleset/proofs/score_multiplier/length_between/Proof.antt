@@ -20,7 +20,13 @@ cast-result-2 : tie.Need-cast-result-2
 cast-result-2 c = simp (narrow (c .round-ties-even-i322 .result) (c .round-ties-even-i322 .ok)) (sfits-of (omega arith))
 
 sub-result : tie.Need-sub-result
-sub-result c = simp (widened (c .before .round-ties-even-i32 .result) (c .before .round-ties-even-i32 .ok), widened (c .round-ties-even-i322 .result) (c .round-ties-even-i322 .ok)) (sfits-of (omega (arith, mag-sub (c .before .round-ties-even-i32 .result) (c .round-ties-even-i322 .result))))
+sub-result c =
+    let at1 = c .before in
+    simp (
+      widened (at1 .round-ties-even-i32 .result) (at1 .round-ties-even-i32 .ok),
+      widened (c .round-ties-even-i322 .result) (c .round-ties-even-i322 .ok),
+    )
+    (sfits-of (omega (arith, mag-sub (at1 .round-ties-even-i32 .result) (c .round-ties-even-i322 .result))))
 
 returns : tie.Need-returns
 returns c =

@@ -30,14 +30,19 @@ nearest-u64-to-f64-requires : tie.Need-nearest-u64-to-f64-requires
 nearest-u64-to-f64-requires c κs = search needs
 
 mul-nearest-u64-to-f64 : tie.Need-mul-nearest-u64-to-f64
-mul-nearest-u64-to-f64 c = record { fits = product-fits _ _ (c .before .before .before .before .before .before .before .before .before .pre .0 .points) (c .before .before .before .before .before .before .before .before .before .pre .2) }
+mul-nearest-u64-to-f64 c =
+    let at1 = c .before .before .before .before .before .before .before .before .before in
+    record { fits = product-fits _ _ (at1 .pre .0 .points) (at1 .pre .2) }
 
 nearest-u64-to-f64-requires-2 : tie.Need-nearest-u64-to-f64-requires-2
 nearest-u64-to-f64-requires-2 c κs = search needs
 
 returns : tie.Need-returns
 unfolding difficultyAttributesOf
-returns c = simp (c .before .before .nearest-u64-to-f64 .ensures, c .nearest-u64-to-f642 .ensures, c .before .before .before .calculate .ensures)
+returns c =
+    let at1 = c .before .before in
+    let at2 = at1 .before in
+    simp (at1 .nearest-u64-to-f64 .ensures, c .nearest-u64-to-f642 .ensures, at2 .calculate .ensures)
 
 pub difficulty-attributes-spec : {M : Type 1} → statement M
 difficulty-attributes-spec =

@@ -27,7 +27,10 @@ add-result c = search needs
 
 returns : tie.Need-returns
 unfolding spinnerScoreOf
-returns c = simp (c .monus2 .ensures, c .before .monus .ensures, c .before .before .before .before .half-spins .ensures .0, c .before .before .before .before .half-spins .ensures .1)
+returns c =
+    let at1 = c .before in
+    let at2 = at1 .before .before .before in
+    simp (c .monus2 .ensures, at1 .monus .ensures, at2 .half-spins .ensures .0, at2 .half-spins .ensures .1)
 
 pub calculate-spinner-score-spec : {M : Type 1} → statement M
 calculate-spinner-score-spec =

@@ -26,7 +26,10 @@ new-requires-2 : tie.Need-new-requires-2 Inv-loop μ-loop
 new-requires-2 c κs = tt
 
 loop-holds : tie.Need-loop-holds Inv-loop μ-loop
-loop-holds c = rw (c .before .new .ensures, c .new2 .ensures) (summing-start (now (c .before .before .before .args .s)) (c .before .before .before .args .passed))
+loop-holds c =
+    let at1 = c .before in
+    let at2 = at1 .before .before in
+    rw (at1 .new .ensures, c .new2 .ensures) (summing-start (now (at2 .args .s)) (at2 .args .passed))
 
 read-record-requires : tie.Need-read-record-requires Inv-loop μ-loop
 read-record-requires c κs = tt
@@ -35,19 +38,41 @@ enum-known-item : tie.Need-enum-known-item Inv-loop μ-loop
 enum-known-item c = search needs
 
 with-record-requires : tie.Need-with-record-requires Inv-loop μ-loop
-with-record-requires c κs = summing-room (c .before .before .before .before .before .before .loop .inv) (c .before .before .before .before .if1 .taken) _ _ (so (c .before .item .given .1) (c .before .before .before .read-record .ensures))
+with-record-requires c κs =
+    let at1 = c .before in
+    let at2 = at1 .before .before in
+    let at3 = at2 .before in
+    let at4 = at3 .before .before in
+    summing-room (at4 .loop .inv) (at3 .if1 .taken) _ _ (so (at1 .item .given .1) (at2 .read-record .ensures))
 
 loop-less : tie.Need-loop-less Inv-loop μ-loop
-loop-less c = let a = summing-ahead (c .before .before .before .before .before .before .before .loop .inv) (c .before .before .before .before .before .if1 .taken) _ _ (so (c .before .before .item .given .1) (c .before .before .before .before .read-record .ensures)) in let h = c .before .before .before .before .before .if1 .taken in omega (arith, a, h)
+loop-less c =
+    let at1 = c .before .before in
+    let at2 = at1 .before .before in
+    let at3 = at2 .before in
+    let at4 = at3 .before .before in
+    let a = summing-ahead (at4 .loop .inv) (at3 .if1 .taken) _ _ (so (at1 .item .given .1) (at2 .read-record .ensures)) in
+    let h = at3 .if1 .taken in
+    omega (arith, a, h)
 
 loop-again : tie.Need-loop-again Inv-loop μ-loop
-loop-again c = summing-step (c .before .before .before .before .before .before .before .loop .inv) (c .before .before .before .before .before .if1 .taken) _ _ (so (c .before .before .item .given .1) (c .before .before .before .before .read-record .ensures)) _ (c .with-record .ensures)
+loop-again c =
+    let at1 = c .before .before in
+    let at2 = at1 .before .before in
+    let at3 = at2 .before in
+    let at4 = at3 .before .before in
+    summing-step (at4 .loop .inv) (at3 .if1 .taken) _ _ (so (at1 .item .given .1) (at2 .read-record .ensures)) _ (c .with-record .ensures)
 
 enum-known-number : tie.Need-enum-known-number Inv-loop μ-loop
 enum-known-number c = search needs
 
 returns : tie.Need-returns Inv-loop μ-loop
-returns c = summing-stop (c .before .before .before .before .before .before .loop .inv) (c .before .before .before .before .if1 .taken) _ _ (so (c .before .number .given .1) (c .before .before .before .read-record .ensures))
+returns c =
+    let at1 = c .before in
+    let at2 = at1 .before .before in
+    let at3 = at2 .before in
+    let at4 = at3 .before .before in
+    summing-stop (at4 .loop .inv) (at3 .if1 .taken) _ _ (so (at1 .number .given .1) (at2 .read-record .ensures))
 
 returns-2 : tie.Need-returns-2 Inv-loop μ-loop
 returns-2 c = end-none (c .before .before .before .before .loop .inv) (c .before .before .if1 .left) (c .if2 .taken)
@@ -62,7 +87,11 @@ score-multiplier-requires c κs =
     (end-settings (c .before .before .before .before .before .loop .inv) (c .before .before .before .if1 .left) (c .before .if2 .left), omega (arith, n), rw e (omega arith))
 
 score-attributes-requires : tie.Need-score-attributes-requires Inv-loop μ-loop
-score-attributes-requires c κs = (end-within (c .before .before .before .before .before .before .loop .inv) (c .before .before .before .before .if1 .left) (c .before .before .if2 .left), end-counted (c .before .before .before .before .before .before .loop .inv) (c .before .before .before .before .if1 .left) (c .before .before .if2 .left), c .score-multiplier .ensures .1)
+score-attributes-requires c κs =
+    let at1 = c .before .before in
+    let at2 = at1 .before .before in
+    let at3 = at2 .before .before in
+    (end-within (at3 .loop .inv) (at2 .if1 .left) (at1 .if2 .left), end-counted (at3 .loop .inv) (at2 .if1 .left) (at1 .if2 .left), c .score-multiplier .ensures .1)
 
 returns-3 : tie.Need-returns-3 Inv-loop μ-loop
 returns-3 c =

@@ -24,7 +24,18 @@ powf-2-5-requires c κs = search needs
 
 returns : tie.Need-returns
 unfolding brokenMissCountOf ofBits ofInt round
-returns c = simp (c .powf-2-5 .ensures, c .before .max .ensures, c .before .before .before .float .ensures, c .before .before .before .before .before .full-combo-threshold .ensures, rw (c .before .before .before .float .ensures, c .before .before .before .before .before .full-combo-threshold .ensures) at (c .before .before .if1 .taken))
+returns c =
+    let at1 = c .before in
+    let at2 = at1 .before in
+    let at3 = at2 .before in
+    let at4 = at3 .before .before in
+    simp (
+      c .powf-2-5 .ensures,
+      at1 .max .ensures,
+      at3 .float .ensures,
+      at4 .full-combo-threshold .ensures,
+      rw (at3 .float .ensures, at4 .full-combo-threshold .ensures) at (at2 .if1 .taken),
+    )
 
 returns-2 : tie.Need-returns-2
 unfolding brokenMissCountOf ofBits ofInt round

@@ -34,7 +34,20 @@ cap-slider-breaks-requires c κs = search needs
 
 returns-2 : tie.Need-returns-2
 unfolding maximumMissCountOf
-returns-2 c = simp (ne-eqb _ _ (c .before .before .before .before .before .if1 .left), c .cap-slider-breaks .ensures, c .before .min .ensures, c .before .before .float2 .ensures, c .before .before .before .before .broken-miss-count .ensures, c .before .before .before .total-imperfect-hits .ensures .0)
+returns-2 c =
+    let at1 = c .before in
+    let at2 = at1 .before in
+    let at3 = at2 .before in
+    let at4 = at3 .before in
+    let at5 = at4 .before in
+    simp (
+      ne-eqb _ _ (at5 .if1 .left),
+      c .cap-slider-breaks .ensures,
+      at1 .min .ensures,
+      at2 .float2 .ensures,
+      at4 .broken-miss-count .ensures,
+      at3 .total-imperfect-hits .ensures .0,
+    )
 
 pub calculate-maximum-combo-based-miss-count-spec : {M : Type 1} → statement M
 calculate-maximum-combo-based-miss-count-spec =

@@ -36,7 +36,23 @@ float-requires-4 c κs = search needs
 
 returns : tie.Need-returns
 unfolding scoreAtComboOf ofBits ofInt round
-returns c = simp (c .before .before .float4 .ensures, c .before .before .before .before .float3 .ensures, c .before .before .before .before .before .float2 .ensures, c .before .before .before .before .before .before .monus .ensures, c .before .before .before .before .before .before .before .before .before .before .combo-portion .ensures, c .before .before .before .before .before .before .before .before .before .before .before .float .ensures, c .before .before .before .before .before .before .before .before .total-hits .ensures .0)
+returns c =
+    let at1 = c .before .before in
+    let at2 = at1 .before .before in
+    let at3 = at2 .before in
+    let at4 = at3 .before in
+    let at5 = at4 .before .before in
+    let at6 = at5 .before .before in
+    let at7 = at6 .before in
+    simp (
+      at1 .float4 .ensures,
+      at2 .float3 .ensures,
+      at3 .float2 .ensures,
+      at4 .monus .ensures,
+      at6 .combo-portion .ensures,
+      at7 .float .ensures,
+      at5 .total-hits .ensures .0,
+    )
 
 pub calculate-score-at-combo-spec : {M : Type 1} → statement M
 calculate-score-at-combo-spec =

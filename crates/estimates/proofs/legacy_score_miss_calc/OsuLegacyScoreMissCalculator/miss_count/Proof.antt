@@ -29,7 +29,20 @@ float-requires c κs = search needs
 
 returns : tie.Need-returns
 unfolding missCountOf ofBits ofInt round
-returns c = simp (c .before .float .ensures, c .before .before .calculate-score-at-combo .ensures, c .before .before .before .before .calculate-maximum-combo-based-miss-count .ensures, c .before .before .before .before .before .calculate-relevant-score-combo-per-object .ensures, c .before .before .before .before .before .before .before .get-legacy-score-multiplier .ensures, rw (c .before .float .ensures, c .before .before .calculate-score-at-combo .ensures, c .before .before .before .before .before .calculate-relevant-score-combo-per-object .ensures, c .before .before .before .before .before .before .before .get-legacy-score-multiplier .ensures) at (c .if1 .taken))
+returns c =
+    let at1 = c .before in
+    let at2 = at1 .before in
+    let at3 = at2 .before .before in
+    let at4 = at3 .before in
+    let at5 = at4 .before .before in
+    simp (
+      at1 .float .ensures,
+      at2 .calculate-score-at-combo .ensures,
+      at3 .calculate-maximum-combo-based-miss-count .ensures,
+      at4 .calculate-relevant-score-combo-per-object .ensures,
+      at5 .get-legacy-score-multiplier .ensures,
+      rw (at1 .float .ensures, at2 .calculate-score-at-combo .ensures, at4 .calculate-relevant-score-combo-per-object .ensures, at5 .get-legacy-score-multiplier .ensures) at (c .if1 .taken),
+    )
 
 cast-monus : tie.Need-cast-monus
 cast-monus c = search needs
@@ -51,7 +64,28 @@ min-requires c κs = search needs
 
 returns-2 : tie.Need-returns-2
 unfolding missCountOf ofBits ofInt round
-returns-2 c = simp (c .before .before .before .before .before .before .before .float .ensures, c .before .before .before .before .before .before .before .before .calculate-score-at-combo .ensures, c .before .before .before .before .before .before .before .before .before .before .calculate-maximum-combo-based-miss-count .ensures, c .before .before .before .before .before .before .before .before .before .before .before .calculate-relevant-score-combo-per-object .ensures, c .before .before .before .before .before .before .before .before .before .before .before .before .before .get-legacy-score-multiplier .ensures, c .min .ensures, c .before .max .ensures, c .before .before .calculate-score-at-combo2 .ensures, c .before .before .before .monus .ensures, rw (c .before .before .before .before .before .before .before .float .ensures, c .before .before .before .before .before .before .before .before .calculate-score-at-combo .ensures, c .before .before .before .before .before .before .before .before .before .before .before .calculate-relevant-score-combo-per-object .ensures, c .before .before .before .before .before .before .before .before .before .before .before .before .before .get-legacy-score-multiplier .ensures) at (c .before .before .before .before .before .before .if1 .left))
+returns-2 c =
+    let at1 = c .before in
+    let at2 = at1 .before in
+    let at3 = at2 .before in
+    let at4 = at3 .before .before .before in
+    let at5 = at4 .before in
+    let at6 = at5 .before in
+    let at7 = at6 .before .before in
+    let at8 = at7 .before in
+    let at9 = at8 .before .before in
+    simp (
+      at5 .float .ensures,
+      at6 .calculate-score-at-combo .ensures,
+      at7 .calculate-maximum-combo-based-miss-count .ensures,
+      at8 .calculate-relevant-score-combo-per-object .ensures,
+      at9 .get-legacy-score-multiplier .ensures,
+      c .min .ensures,
+      at1 .max .ensures,
+      at2 .calculate-score-at-combo2 .ensures,
+      at3 .monus .ensures,
+      rw (at5 .float .ensures, at6 .calculate-score-at-combo .ensures, at8 .calculate-relevant-score-combo-per-object .ensures, at9 .get-legacy-score-multiplier .ensures) at (at4 .if1 .left),
+    )
 
 pub miss-count-spec : {M : Type 1} → statement M
 miss-count-spec =

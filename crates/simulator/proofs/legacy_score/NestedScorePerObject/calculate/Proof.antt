@@ -25,7 +25,16 @@ nearest-u64-to-f64-requires-4 c κs = search needs
 
 returns : tie.Need-returns
 unfolding nestedScoreOf ofBits ofInt
-returns c = simp (c .before .before .before .nearest-u64-to-f64 .ensures, c .before .before .nearest-u64-to-f642 .ensures, c .before .nearest-u64-to-f643 .ensures, c .nearest-u64-to-f644 .ensures)
+returns c =
+    let at1 = c .before in
+    let at2 = at1 .before in
+    let at3 = at2 .before in
+    simp (
+      at3 .nearest-u64-to-f64 .ensures,
+      at2 .nearest-u64-to-f642 .ensures,
+      at1 .nearest-u64-to-f643 .ensures,
+      c .nearest-u64-to-f644 .ensures,
+    )
 
 pub calculate-spec : {M : Type 1} → statement M
 calculate-spec =

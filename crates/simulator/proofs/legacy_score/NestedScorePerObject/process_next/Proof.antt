@@ -27,10 +27,18 @@ add-t14 : tie.Need-add-t14
 add-t14 c = search needs
 
 add-t15 : tie.Need-add-t15
-add-t15 c = let room = subst (λ (k : HitObjectKind). nestedCount k ≤ 1000) (c .before .before .before .before .kind .given .1) (c .before .before .before .before .before .before .before .pre .1) in omega (arith, c .before .before .before .before .before .before .before .pre .0 .repeats)
+add-t15 c =
+    let at1 = c .before .before .before .before in
+    let at2 = at1 .before .before .before in
+    let room = subst (λ (k : HitObjectKind). nestedCount k ≤ 1000) (at1 .kind .given .1) (at2 .pre .1) in
+    omega (arith, at2 .pre .0 .repeats)
 
 add-t16 : tie.Need-add-t16
-add-t16 c = let room = subst (λ (k : HitObjectKind). nestedCount k ≤ 1000) (c .before .before .before .before .before .before .kind .given .1) (c .before .before .before .before .before .before .before .before .before .pre .1) in omega (arith, c .before .before .before .before .before .before .before .before .before .pre .0 .ticks)
+add-t16 c =
+    let at1 = c .before .before .before .before .before .before in
+    let at2 = at1 .before .before .before in
+    let room = subst (λ (k : HitObjectKind). nestedCount k ≤ 1000) (at1 .kind .given .1) (at2 .pre .1) in
+    omega (arith, at2 .pre .0 .ticks)
 
 enum-known-kind-2 : tie.Need-enum-known-kind-2
 enum-known-kind-2 c = search needs
@@ -42,7 +50,12 @@ calculate-spinner-score-requires : tie.Need-calculate-spinner-score-requires
 calculate-spinner-score-requires c κs = search needs
 
 add-t22 : tie.Need-add-t22
-add-t22 c = let d = c .before .before .before .before .kind2 .given .0 .0 .duration in omega (arith, c .before .before .before .before .before .before .before .pre .0 .spun, c .before .calculate-spinner-score .ensures, nested-legacy d, legacy-most d)
+add-t22 c =
+    let at1 = c .before in
+    let at2 = at1 .before .before .before in
+    let at3 = at2 .before .before .before in
+    let d = at2 .kind2 .given .0 .0 .duration in
+    omega (arith, at3 .pre .0 .spun, at1 .calculate-spinner-score .ensures, nested-legacy d, legacy-most d)
 
 returns : tie.Need-returns
 unfolding counted
@@ -50,7 +63,9 @@ returns c = simp (c .before .enum-told .given .1)
 
 returns-2 : tie.Need-returns-2
 unfolding counted
-returns-2 c = simp (c .before .before .before .before .before .before .kind .given .1, repeats-kept (c .before .before .before .before .before .before .kind .given .0 .0), ticks-kept (c .before .before .before .before .before .before .kind .given .0 .0))
+returns-2 c =
+    let at1 = c .before .before .before .before .before .before in
+    simp (at1 .kind .given .1, repeats-kept (at1 .kind .given .0 .0), ticks-kept (at1 .kind .given .0 .0))
 
 returns-3 : tie.Need-returns-3
 unfolding counted

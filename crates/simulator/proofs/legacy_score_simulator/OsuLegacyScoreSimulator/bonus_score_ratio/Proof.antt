@@ -18,7 +18,10 @@ returns c = simp (eq-eqb _ _ (c .if1 .taken))
 
 returns-2 : tie.Need-returns-2
 unfolding bonusRatioOf ofBits ofInt
-returns-2 c = simp (ne-eqb _ _ (c .before .before .if1 .left), c .before .nearest-u64-to-f64 .ensures, c .nearest-u64-to-f642 .ensures)
+returns-2 c =
+    let at1 = c .before in
+    let at2 = at1 .before in
+    simp (ne-eqb _ _ (at2 .if1 .left), at1 .nearest-u64-to-f64 .ensures, c .nearest-u64-to-f642 .ensures)
 
 pub bonus-score-ratio-spec : {M : Type 1} → statement M
 bonus-score-ratio-spec =

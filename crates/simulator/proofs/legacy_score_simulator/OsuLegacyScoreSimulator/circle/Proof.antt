@@ -20,7 +20,10 @@ add-t7 : tie.Need-add-t7
 add-t7 c = search needs
 
 returns : tie.Need-returns
-returns c = state-same refl refl (omega (arith, c .before .combo-points .ensures)) refl refl ∙ sym (walk-circle 1 (c .before .before .before .before .before .before .args .self))
+returns c =
+    let at1 = c .before in
+    let at2 = at1 .before .before .before .before .before in
+    state-same refl refl (omega (arith, at1 .combo-points .ensures)) refl refl ∙ sym (walk-circle 1 (at2 .args .self))
 
 pub circle-spec : {M : Type 1} → statement M
 circle-spec = tie.close (tie.spec add-t4 add-t5 combo-points-requires add-t7 returns)

@@ -15,7 +15,10 @@ add-t6 : tie.Need-add-t6
 add-t6 c = omega (arith, c .before .before .bonus .ensures, legacy-most (c .before .before .before .args .spinner .duration))
 
 add-t6-2 : tie.Need-add-t6-2
-add-t6-2 c = omega (arith, c .before .before .before .before .bonus .ensures, standardised-most (c .before .before .before .before .before .args .spinner .duration))
+add-t6-2 c =
+    let at1 = c .before .before .before .before in
+    let at2 = at1 .before in
+    omega (arith, at1 .bonus .ensures, standardised-most (at2 .args .spinner .duration))
 
 add-t6-3 : tie.Need-add-t6-3
 add-t6-3 c = search needs

@@ -20,7 +20,10 @@ enum-known-kind : tie.Need-enum-known-kind
 enum-known-kind c = search needs
 
 slider-requires : tie.Need-slider-requires
-slider-requires c κs = (c .before .before .before .pre .0, subst (λ (k : HitObjectKind). nestedCount k ≤ 1000) (c .before .kind .given .1) (c .before .before .before .pre .1))
+slider-requires c κs =
+    let at1 = c .before in
+    let at2 = at1 .before .before in
+    (at2 .pre .0, subst (λ (k : HitObjectKind). nestedCount k ≤ 1000) (at1 .kind .given .1) (at2 .pre .1))
 
 enum-known-kind-2 : tie.Need-enum-known-kind-2
 enum-known-kind-2 c = search needs
@@ -29,13 +32,22 @@ spinner-requires : tie.Need-spinner-requires
 spinner-requires c κs = search needs
 
 returns : tie.Need-returns
-returns c = c .circle .ensures ∙ sym (ap (λ (k : HitObjectKind). walk 1 (c .before .before .before .args .self) (hitsOf (kindOf k))) (c .before .enum-told .given .1))
+returns c =
+    let at1 = c .before in
+    let at2 = at1 .before .before in
+    c .circle .ensures ∙ sym (ap (λ (k : HitObjectKind). walk 1 (at2 .args .self) (hitsOf (kindOf k))) (at1 .enum-told .given .1))
 
 returns-2 : tie.Need-returns-2
-returns-2 c = c .slider .ensures ∙ sym (ap (λ (k : HitObjectKind). walk 1 (c .before .before .before .before .args .self) (hitsOf (kindOf k))) (c .before .before .kind .given .1))
+returns-2 c =
+    let at1 = c .before .before in
+    let at2 = at1 .before .before in
+    c .slider .ensures ∙ sym (ap (λ (k : HitObjectKind). walk 1 (at2 .args .self) (hitsOf (kindOf k))) (at1 .kind .given .1))
 
 returns-3 : tie.Need-returns-3
-returns-3 c = c .spinner .ensures ∙ sym (ap (λ (k : HitObjectKind). walk 1 (c .before .before .before .before .args .self) (hitsOf (kindOf k))) (c .before .before .kind2 .given .1))
+returns-3 c =
+    let at1 = c .before .before in
+    let at2 = at1 .before .before in
+    c .spinner .ensures ∙ sym (ap (λ (k : HitObjectKind). walk 1 (at2 .args .self) (hitsOf (kindOf k))) (at1 .kind2 .given .1))
 
 pub step-spec : {M : Type 1} → statement M
 step-spec =

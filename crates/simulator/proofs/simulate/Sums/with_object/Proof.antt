@@ -16,7 +16,11 @@ process-next-requires c κs = search needs
 
 returns : tie.Need-returns
 unfolding withObject
-returns c = simp (lt-ltb _ _ (c .before .before .if1 .taken), c .before .before .before .at-first .ensures, c .before .step .ensures, c .process-next .ensures)
+returns c =
+    let at1 = c .before in
+    let at2 = at1 .before in
+    let at3 = at2 .before in
+    simp (lt-ltb _ _ (at2 .if1 .taken), at3 .at-first .ensures, at1 .step .ensures, c .process-next .ensures)
 
 at-first-requires-2 : tie.Need-at-first-requires-2
 at-first-requires-2 c κs = search needs

@@ -10,7 +10,10 @@ enum-known-item : tie.Need-enum-known-item
 enum-known-item c = search needs
 
 with-object-requires : tie.Need-with-object-requires
-with-object-requires c κs = subst (Room (c .before .before .before .args .self)) (c .before .item .given .1) (c .before .before .before .pre)
+with-object-requires c κs =
+    let at1 = c .before in
+    let at2 = at1 .before .before in
+    subst (Room (at2 .args .self)) (at1 .item .given .1) (at2 .pre)
 
 enum-told : tie.Need-enum-told
 enum-told c = search needs
@@ -22,7 +25,10 @@ enum-told-3 : tie.Need-enum-told-3
 enum-told-3 c = search needs
 
 returns : tie.Need-returns
-returns c = c .with-object .ensures ∙ sym (ap (withRecord (c .before .before .before .before .args .passed) (c .before .before .before .before .args .place) (c .before .before .before .before .args .self)) (c .before .before .item .given .1))
+returns c =
+    let at1 = c .before .before in
+    let at2 = at1 .before .before in
+    c .with-object .ensures ∙ sym (ap (withRecord (at2 .args .passed) (at2 .args .place) (at2 .args .self)) (at1 .item .given .1))
 
 returns-2 : tie.Need-returns-2
 returns-2 c = search needs

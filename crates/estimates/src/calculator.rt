@@ -61,7 +61,7 @@ fn lazer_miss_count(play: Play, attrs: OsuDifficultyAttributes) -> f64
 }
 
 // Origins 0 and 2 use classic slider accuracy.
-fn is_classic(origin: OsuScoreOrigin) -> bool
+pub fn is_classic(origin: OsuScoreOrigin) -> bool
     ensures { λ r. ⌜ r ≡ isClassicOf origin ⌝ }
 {
     match origin {

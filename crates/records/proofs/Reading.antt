@@ -25,6 +25,7 @@ use Rattle.records.specs.declared.file.Answer.the-variants as answer
 use Rattle.records.proofs.All.{All, none, that, all-out}
 use Rattle.records.proofs.Bodies.{bonus-kept}
 use Rattle.records.proofs.Local.{record-in}
+use Rattle.records.proofs.Room.{placeOf, record-ordered}
 use Rattle.records.proofs.Sizes.{Sized, record-sized}
 
 never : {A : Type 0} → _≡_ {A = ℕ} 0 1 → A
@@ -143,6 +144,36 @@ chain-in p t f (longer {f = g} {r = r} c b e) h =
 pub part-file : (p t : List ℕ) (f : File) → Chain (p ++ t) f → f .at ≡ length p → fileOf p ≡ ended f
 part-file p t f c e = on-end p f (chain-on p f (chain-in p t f c (omega (arith, e)))) (omega (arith, e))
 
+-- it lies within the file
+pub chain-inside : (s : List ℕ) (f : File) → Chain s f → f .at ≤ length s
+chain-inside s f start = omega arith
+chain-inside s f (longer {f = g} {r = r} c h e) =
+    let past = with-at g r in
+    let sized = found-sized s g r e in
+    let room = length-drop (g .at) s in
+    omega (arith, past, sized .1, room, h)
+
+-- the place of a record in the order is that of its content, and no earlier than the last one's
+pub with-last : (f : File) (r : Content × ℕ) → with-record f r .last ≡ placeOf (r .0)
+unfolding with-record
+with-last f (header s, n) = refl
+with-last f (break b, n) = refl
+with-last f (object o, n) = refl
+with-last f (play p, n) = refl
+
+pub found-ordered : (s : List ℕ) (f : File) (r : Content × ℕ) → foundAt s f ≡ good r → f .last ≤ placeOf (r .0)
+unfolding countsOf
+found-ordered s f r e = all-out (rw e at (record-ordered (drop (f .at) s) (countsOf f)))
+
+-- plays come last
+pub chain-plays : (s : List ℕ) (f : File) → Chain s f → f .last ≤ 3 → f .plays ≡ []
+unfolding with-record
+chain-plays s f start h = refl
+chain-plays s f (longer {f = g} {r = (header t, n)} c b e) h = chain-plays s g c (omega (arith, found-ordered s g (header t, n) e))
+chain-plays s f (longer {f = g} {r = (break x, n)} c b e) h = chain-plays s g c (omega (arith, found-ordered s g (break x, n) e))
+chain-plays s f (longer {f = g} {r = (object o, n)} c b e) h = chain-plays s g c (omega (arith, found-ordered s g (object o, n) e))
+chain-plays s f (longer {f = g} {r = (play p, n)} c b e) h = never (omega (arith, h))
+
 -- ---- the loop's invariant: the reader is the view of what was read
 pub record Kept (s : List ℕ) (f : File) (reader : Reader) : Type 0 where
   pub viewed : reader ≡ view f
@@ -156,13 +187,23 @@ at-view : (s : List ℕ) (f : File) → recordOf (drop (view f .at) s) (view f .
 unfolding view
 at-view s f = refl
 
-at-is : (f : File) {reader : Reader} → reader ≡ view f → reader .at ≡ f .at
-unfolding view
-at-is f e = ap (λ r. r .at) e
+-- what the reader shows of the file
+pub record Seen (f : File) (reader : Reader) : Type 0 where
+  pub at : reader .at ≡ f .at
+  pub settings : reader .settings ≡ f .map .settings
+  pub last : reader .counts .last ≡ f .last
+  pub breaks : reader .counts .breaks ≡ length (f .map .breaks)
+  pub objects : reader .counts .objects ≡ length (f .map .objects)
 
-last-is : (f : File) {reader : Reader} → reader ≡ view f → reader .counts .last ≡ f .last
+pub seen : (f : File) {reader : Reader} → reader ≡ view f → Seen f reader
 unfolding view countsOf
-last-is f e = ap (λ r. r .counts .last) e
+seen f e = record {
+  at = ap (λ r. r .at) e;
+  settings = ap (λ r. r .settings) e;
+  last = ap (λ r. r .counts .last) e;
+  breaks = ap (λ r. r .counts .breaks) e;
+  objects = ap (λ r. r .counts .objects) e;
+}
 
 -- a step of the loop: the record's content, and the file with it
 pub record Moved (s : List ℕ) (f : File) (reader : Reader) (item : Record) (next : Reader) : Type 0 where
@@ -174,7 +215,7 @@ pub record Moved (s : List ℕ) (f : File) (reader : Reader) (item : Record) (ne
 
 module _ (s : List ℕ) (f : File) (reader : Reader) (k : Kept s f reader) (h : reader .at < length s) where
   before-end : f .at < length s
-  before-end = subst (λ (n : ℕ). n < length s) (at-is f (k .viewed)) h
+  before-end = subst (λ (n : ℕ). n < length s) (seen f (k .viewed) .at) h
 
   -- what the code was told, of the definition's find
   told : {x : Step} → x ≡ stepOf reader (recordOf (drop (reader .at) s) (reader .counts)) → x ≡ stepOf (view f) (foundAt s f)
@@ -186,8 +227,8 @@ module _ (s : List ℕ) (f : File) (reader : Reader) (k : Kept s f reader) (h : 
       moved : (r : Content × ℕ) → foundAt s f ≡ good r → item ≡ contentView (r .0) → next ≡ behind (view f) r → Moved s f reader item next
       moved r q i n =
           let viewed = n ∙ sym (view-with f r) in
-          let here = at-is f (k .viewed) in
-          let there : next .at ≡ f .at + r .1 = at-is (with-record f r) viewed ∙ with-at f r in
+          let here = seen f (k .viewed) .at in
+          let there : next .at ≡ f .at + r .1 = seen (with-record f r) viewed .at ∙ with-at f r in
           record {
             content = r;
             found = q;
@@ -208,18 +249,18 @@ module _ (s : List ℕ) (f : File) (reader : Reader) (k : Kept s f reader) (h : 
       go (refused m) q e =
           let i : n ≡ m = cc in
           let a : at ≡ view f .at = cc in
-          on-stop s f m (chain-on s f (k .chain)) before-end q ∙ rw (i, a ∙ at-is f refl)
+          on-stop s f m (chain-on s f (k .chain)) before-end q ∙ rw (i, a ∙ seen f refl .at)
 
 -- ---- the answers at the end of the input
 module _ (s : List ℕ) (f : File) (reader : Reader) (k : Kept s f reader) (h : length s ≤ reader .at) where
-  all-read : fileOf s ≡ ended f
-  all-read = on-end s f (chain-on s f (k .chain)) (subst (λ (n : ℕ). length s ≤ n) (at-is f (k .viewed)) h)
+  pub all-read : fileOf s ≡ ended f
+  all-read = on-end s f (chain-on s f (k .chain)) (subst (λ (n : ℕ). length s ≤ n) (seen f (k .viewed) .at) h)
 
   pub end-none : reader .counts .last ≡ 0 → answer.Refused 3 0 ≡ answerOf (fileOf s)
-  end-none e = rw all-read (simp (eq-eqb (f .last) 0 (sym (last-is f (k .viewed)) ∙ e)))
+  end-none e = rw all-read (simp (eq-eqb (f .last) 0 (sym (seen f (k .viewed) .last) ∙ e)))
 
   pub end-map : (reader .counts .last ≡ 0 → ⊥) → answer.Map reader ≡ answerOf (fileOf s)
-  end-map e = rw all-read (simp (ne-eqb (f .last) 0 (λ z. e (last-is f (k .viewed) ∙ z))) (ap answer.Map (k .viewed)))
+  end-map e = rw all-read (simp (ne-eqb (f .last) 0 (λ z. e (seen f (k .viewed) .last ∙ z))) (ap answer.Map (k .viewed)))
 
 -- some file was read so far
 pub record Reading (s : List ℕ) (reader : Reader) : Type 0 where

@@ -5,7 +5,7 @@ use mathlib.Core.List.{List}
 use Prim.Native.Nat.{ℕ, _+_, _≤_, _<_}
 use native.Mathlib.Omega.{arith}
 use lib.Dec.{eqb, leb, ltb}
-use borrow.Author.Tests.{leb-false, ltb-true, ltb-false, eqb-true, not-false}
+use borrow.Author.Tests.{leb-true, leb-false, ltb-true, ltb-false, eqb-true, not-false}
 use Rattle.numbers.specs.Words.{wordAt}
 use Rattle.records.specs.Refusals.{Checked, good, refused}
 use Rattle.records.specs.Objects.{Object}
@@ -55,6 +55,23 @@ unfolding recordOf
 record-fits r c =
     all-when 2 _ _ (λ _. all-when 3 _ _ (λ _. all-when 6 _ _ (λ few.
     all-bind (bodyOf r (wordAt r 0 2)) _ (body-placed r (wordAt r 0 2)) (λ f h. all-when 7 _ _ (λ low. that (fits c (wordAt r 0 2) (f .0) h few low))))))
+
+-- a record comes after those of an earlier place only
+and-right : (a b : Bool) → (a && b) ≡ true → b ≡ true
+and-right true b e = e
+and-right false b e = absurd (let z : _≡_ {A = ℕ} 0 1 = cc in omega arith)
+
+ordered : (last m : ℕ) (x : Content) → placeOf x ≡ rankOf m → inOrder last (rankOf m) ≡ true → last ≤ placeOf x
+ordered last m (header s) p q = let e = eqb-true last 0 (rw (sym p) at q) in omega (arith, e)
+ordered last m (break b) p q = leb-true last 2 (and-right (ltb 0 last) (leb last 2) (rw (sym p) at q))
+ordered last m (object o) p q = leb-true last 3 (and-right (ltb 0 last) (leb last 3) (rw (sym p) at q))
+ordered last m (play s) p q = leb-true last 4 (and-right (ltb 0 last) (leb last 4) (rw (sym p) at q))
+
+pub record-ordered : (r : List ℕ) (c : Counts) → All (λ f. c .last ≤ placeOf (f .0)) (recordOf r c)
+unfolding recordOf
+record-ordered r c =
+    all-when 2 _ _ (λ _. all-when 3 _ _ (λ order. all-when 6 _ _ (λ _.
+    all-bind (bodyOf r (wordAt r 0 2)) _ (body-placed r (wordAt r 0 2)) (λ f h. all-when 7 _ _ (λ _. that (ordered (c .last) (wordAt r 0 2) (f .0) h (not-false _ order)))))))
 
 -- a record that is no header comes after one
 abbrev pub Begun : Counts → Content → Type 0

@@ -21,7 +21,7 @@ use Rattle.records.specs.declared.file.Step.the-variants as step
 use Rattle.records.specs.declared.record.Record.{Record}
 use Rattle.records.proofs.All.{All, that, all-bind, all-any, all-when, all-pick, all-map, all-out}
 use Rattle.encoding.proofs.Accepted.{object-within, accepted-within}
-use Rattle.records.proofs.Reading.{Kept, Moved, kept-start, chain-on, kept-step, kept-stop, on-end, length-snoc}
+use Rattle.records.proofs.Reading.{Kept, Moved, Seen, seen, all-read, kept-start, kept-step, kept-stop, length-snoc}
 use Rattle.records.proofs.Room.{record-fits}
 use Rattle.ruleset.specs.Drain.{startOf, lastPlace, drainAt, drainOf, breaksLength, breaksIn}
 use Rattle.ruleset.specs.Stars.{multiplierOf, multiplierAt}
@@ -144,10 +144,6 @@ pub summing-start : (s : List ℕ) (p : ℕ) → Summing s p freshOf (sumsOf p [
 summing-start s p =
     record { file = file·of.fresh; kept = kept-start s; standing = standing-start s; few = none; count = omega arith; same = refl }
 
-objects-of : (f : File) (reader : Reader) → reader ≡ view f → reader .counts .objects ≡ length (f .map .objects)
-unfolding view countsOf
-objects-of f reader e = ap (λ r. r .counts .objects) e
-
 module _ {s : List ℕ} {p : ℕ} {reader : Reader} {sums : Sums} (k : Summing s p reader sums) where
   abbrev f : File
   f = k .file
@@ -180,7 +176,7 @@ module _ {s : List ℕ} {p : ℕ} {reader : Reader} {sums : Sums} (k : Summing s
       let more = length-snoc (f .map .objects) o in (
         each-more (f .map .objects) o (k .few) h,
         omega (arith, more, e .0),
-        ap (λ (m : ℕ). withObject p m sums (objectView o)) (objects-of f reader (k .kept .viewed))
+        ap (λ (m : ℕ). withObject p m sums (objectView o)) (seen f (k .kept .viewed) .objects)
             ∙ ap (λ (x : Sums). withObject p (length (f .map .objects)) x (objectView o)) (k .same)
             ∙ sym (sums-more p (f .map .objects) o),
       )
@@ -223,39 +219,19 @@ drain-of s p (o ∷ os) bs e =
     let last = startOf (o ∷ os) (lastPlace (length (o ∷ os)) p) in
     rw (eqb·suc-zero (length os)) (ap (λ (l : List BreakPeriod). drainOf (o .start) last (breaksLength last l)) e)
 
-pub record Seen (f : File) (reader : Reader) : Type 0 where
-  pub at : reader .at ≡ f .at
-  pub settings : reader .settings ≡ f .map .settings
-  pub last : reader .counts .last ≡ f .last
-  pub breaks : reader .counts .breaks ≡ length (f .map .breaks)
-  pub objects : reader .counts .objects ≡ length (f .map .objects)
-
-seen : (f : File) (reader : Reader) → reader ≡ view f → Seen f reader
-unfolding view countsOf
-seen f reader e = record {
-  at = ap (λ r. r .at) e;
-  settings = ap (λ r. r .settings) e;
-  last = ap (λ r. r .counts .last) e;
-  breaks = ap (λ r. r .counts .breaks) e;
-  objects = ap (λ r. r .counts .objects) e;
-}
-
 module _ {s : List ℕ} {p : ℕ} {reader : Reader} {sums : Sums} (k : Summing s p reader sums) (h : length s ≤ reader .at) where
   abbrev g : File
   g = k .file
 
   abbrev sees : Seen g reader
-  sees = seen g reader (k .kept .viewed)
-
-  all-read : fileOf s ≡ ended g
-  all-read = on-end s g (chain-on s g (k .kept .chain)) (omega (arith, h, sees .at))
+  sees = seen g (k .kept .viewed)
 
   pub end-none : reader .counts .last ≡ 0 → simulated.Refused 3 0 ≡ simulatedOf (fileOf s) p
-  end-none e = rw all-read (simp (eq-eqb (g .last) 0 (sym (sees .last) ∙ e)))
+  end-none e = rw (all-read s g reader (k .kept) h) (simp (eq-eqb (g .last) 0 (sym (sees .last) ∙ e)))
 
   module _ (e : reader .counts .last ≡ 0 → ⊥) where
     file-is : fileOf s ≡ accepted g
-    file-is = all-read ∙ simp (ne-eqb (g .last) 0 (λ z. e (sees .last ∙ z)))
+    file-is = all-read s g reader (k .kept) h ∙ simp (ne-eqb (g .last) 0 (λ z. e (sees .last ∙ z)))
 
     limits : MapWithin (g .map)
     limits = accepted-within s g file-is

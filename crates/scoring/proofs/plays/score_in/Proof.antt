@@ -1,0 +1,41 @@
+-- The attributes that the simulation gives are those of the definition.
+use Rattle.scoring.proofs.Answers.{in-refused, in-map}
+use denote.Ref.{now}
+use Rattle.records.specs.File.{fileOf}
+use Rattle.records.proofs.Laws.{so}
+use borrow.Author.Needs.{needs}
+use Rattle.scoring.proofs.plays.score_in.Statement.{statement}
+use Rattle.scoring.proofs.plays.score_in.Tie as tie
+
+cast-simulate : tie.Need-cast-simulate
+cast-simulate c = search needs
+
+simulate-requires : tie.Need-simulate-requires
+simulate-requires c κs = search needs
+
+enum-known-number : tie.Need-enum-known-number
+enum-known-number c = search needs
+
+enum-known-a : tie.Need-enum-known-a
+enum-known-a c = search needs
+
+score-on-requires : tie.Need-score-on-requires
+score-on-requires c κs = search needs
+
+returns : tie.Need-returns
+returns c = in-refused (fileOf (now (c .before .before .before .before .before .before .args .map))) (c .before .before .before .before .before .before .args .play) _ _ (so (c .before .number .given .1) (c .before .before .before .simulate .ensures))
+
+returns-2 : tie.Need-returns-2
+returns-2 c = in-map (fileOf (now (c .before .before .before .before .before .before .before .args .map))) (c .before .before .before .before .before .before .before .args .play) _ _ (so (c .before .before .a .given .1) (c .before .before .before .before .simulate .ensures)) (c .score-on .ensures)
+
+pub score-in-spec : {M : Type 1} → statement M
+score-in-spec =
+    tie.close
+    (tie.spec
+    cast-simulate
+    simulate-requires
+    enum-known-number
+    enum-known-a
+    score-on-requires
+    returns
+    returns-2)

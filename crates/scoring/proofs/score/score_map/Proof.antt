@@ -1,0 +1,50 @@
+-- The plays are checked, and the simulation gives the attributes of as many objects as there are.
+use denote.Ref.{now}
+use Rattle.records.specs.File.{fileOf}
+use Rattle.records.proofs.Laws.{so}
+use Rattle.scoring.specs.Scores.{scoresOf}
+use Rattle.scoring.proofs.Answers.{map-refused, not-refused, map-scored}
+use borrow.Author.Needs.{needs}
+use Rattle.scoring.proofs.score.score_map.Statement.{statement}
+use Rattle.scoring.proofs.score.score_map.Tie as tie
+
+check-plays-requires : tie.Need-check-plays-requires
+check-plays-requires c κs = search needs
+
+enum-known-number : tie.Need-enum-known-number
+enum-known-number c = search needs
+
+enum-known-objects : tie.Need-enum-known-objects
+enum-known-objects c = search needs
+
+simulate-requires : tie.Need-simulate-requires
+simulate-requires c κs = search needs
+
+enum-known-number-2 : tie.Need-enum-known-number-2
+enum-known-number-2 c = search needs
+
+enum-known-a : tie.Need-enum-known-a
+enum-known-a c = search needs
+
+returns : tie.Need-returns
+returns c = map-refused 0 (scoresOf (fileOf (now (c .before .before .before .before .before .args .s)))) _ _ (so (c .before .number .given .1) (c .before .before .before .check-plays .ensures))
+
+returns-2 : tie.Need-returns-2
+returns-2 c = not-refused 0 (fileOf (now (c .before .before .before .before .before .before .before .before .before .args .s))) _ _ (so (c .before .before .before .before .before .objects .given .1) (c .before .before .before .before .before .before .before .check-plays .ensures)) _ _ _ (so (c .before .number2 .given .1) (c .before .before .before .simulate .ensures))
+
+returns-3 : tie.Need-returns-3
+returns-3 c = map-scored 0 (fileOf (now (c .before .before .before .before .before .before .before .before .before .args .s))) _ _ (so (c .before .before .before .before .before .objects .given .1) (c .before .before .before .before .before .before .before .check-plays .ensures)) _ (so (c .before .a .given .1) (c .before .before .before .simulate .ensures))
+
+pub score-map-spec : {M : Type 1} → statement M
+score-map-spec =
+    tie.close
+    (tie.spec
+    check-plays-requires
+    enum-known-number
+    enum-known-objects
+    simulate-requires
+    enum-known-number-2
+    enum-known-a
+    returns
+    returns-2
+    returns-3)

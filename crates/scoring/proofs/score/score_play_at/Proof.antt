@@ -1,0 +1,46 @@
+-- The loop over the plays gives the one at the index.
+use denote.Ref.{now}
+use Rattle.records.specs.File.{fileOf}
+use Rattle.records.proofs.Laws.{so}
+use Rattle.scoring.specs.Scores.{scoresOf}
+use Rattle.scoring.proofs.Answers.{listed-refused, listed-none, listed-scored}
+use borrow.Author.Needs.{needs}
+use Rattle.scoring.proofs.score.score_play_at.Statement.{statement}
+use Rattle.scoring.proofs.score.score_play_at.Tie as tie
+
+check-plays-requires : tie.Need-check-plays-requires
+check-plays-requires c κs = search needs
+
+enum-known-number : tie.Need-enum-known-number
+enum-known-number c = search needs
+
+enum-known-wanted : tie.Need-enum-known-wanted
+enum-known-wanted c = search needs
+
+enum-told : tie.Need-enum-told
+enum-told c = search needs
+
+enum-known-wanted-2 : tie.Need-enum-known-wanted-2
+enum-known-wanted-2 c = search needs
+
+returns : tie.Need-returns
+returns c = listed-refused (c .before .before .before .before .before .args .index) (scoresOf (fileOf (now (c .before .before .before .before .before .args .s)))) _ _ (so (c .before .number .given .1) (c .before .before .before .check-plays .ensures))
+
+returns-2 : tie.Need-returns-2
+returns-2 c = listed-none (c .before .before .before .before .before .before .before .args .index) (fileOf (now (c .before .before .before .before .before .before .before .args .s))) _ _ (so (c .before .before .before .wanted .given .1) (c .before .before .before .before .before .check-plays .ensures)) _ (c .enum-told .given .1)
+
+returns-3 : tie.Need-returns-3
+returns-3 c = listed-scored (c .before .before .before .before .before .before .before .before .args .index) (fileOf (now (c .before .before .before .before .before .before .before .before .args .s))) _ _ (so (c .before .before .before .before .wanted .given .1) (c .before .before .before .before .before .before .check-plays .ensures)) _ (c .before .wanted2 .given .1)
+
+pub score-play-at-spec : {M : Type 1} → statement M
+score-play-at-spec =
+    tie.close
+    (tie.spec
+    check-plays-requires
+    enum-known-number
+    enum-known-wanted
+    enum-told
+    enum-known-wanted-2
+    returns
+    returns-2
+    returns-3)

@@ -1,0 +1,3 @@
+pub mod PlayRules
+pub mod Scores
+pub mod View

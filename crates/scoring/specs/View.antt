@@ -1,0 +1,73 @@
+-- What the code keeps while it reads the plays of a file.
+use Prim.Native.Nat.{ℕ, zero, suc, _-_}
+use mathlib.Core.List.{List, [], _∷_}
+use lib.Dec.{eqb}
+use lib.ListN.{length, take, drop}
+use Rattle.records.specs.Refusals.{pick}
+use Rattle.records.specs.Order.{recordOf}
+use Rattle.records.specs.File.{Result, accepted, refusedAt, fileOf}
+use Rattle.records.specs.View.{stepOf, freshOf}
+use Rattle.records.specs.declared.play.Play.{Play}
+use Rattle.records.specs.declared.record.Record.{Record}
+use Rattle.records.specs.declared.record.Record.the-variants as record·case
+use Rattle.records.specs.declared.file.Reader.{Reader}
+use Rattle.records.specs.declared.file.Step.{Step}
+use Rattle.records.specs.declared.file.Step.the-variants as step
+use Rattle.scoring.specs.PlayRules.{scoredOf}
+use Rattle.scoring.specs.Scores.{Outcome, refusal, values, Scores, playScoreOn}
+use Rattle.scoring.specs.declared.play_score.PlayScore.{PlayScore}
+use Rattle.scoring.specs.declared.play_score.Scored.{Scored}
+use Rattle.scoring.specs.declared.play_score.Scored.the-variants as scored
+use Rattle.scoring.specs.declared.plays.Wanted.{Wanted}
+use Rattle.scoring.specs.declared.plays.Wanted.the-variants as wanted
+use Rattle.scoring.specs.declared.plays.RecordScore.{RecordScore}
+use Rattle.scoring.specs.declared.plays.RecordScore.the-variants as record·score
+use Rattle.scoring.specs.declared.plays.Walk.{Walk}
+use Rattle.scoring.specs.declared.plays.Walked.{Walked}
+use Rattle.scoring.specs.declared.plays.Walked.the-variants as walked
+use Rattle.scoring.specs.declared.plays.Plays.{Plays}
+use Rattle.scoring.specs.declared.plays.Plays.the-variants as plays
+
+-- the play at an index of the scores, or how far it is ahead of them
+unfoldable pub wantedOf : ℕ → List PlayScore → Wanted
+wantedOf i [] = wanted.Ahead i
+wantedOf zero (s ∷ ss) = wanted.Is s
+wantedOf (suc i) (s ∷ ss) = wantedOf i ss
+
+-- behind one more play
+unfoldable pub wantedAfter : Wanted → PlayScore → Wanted
+wantedAfter (wanted.Is found) s = wanted.Is found
+wantedAfter (wanted.Ahead n) s = pick (eqb n 0) (wanted.Is s) (wanted.Ahead (n - 1))
+
+abbrev pub walkStart : ℕ → Walk
+walkStart i = record { reader = freshOf; end = 0; wanted = wanted.Ahead i }
+
+-- a play on what a file holds before it
+abbrev pub scoredIn : Result → Play → Scored
+scoredIn (accepted f) p = scoredOf (playScoreOn (f .map) p)
+scoredIn (refusedAt n at f) p = scored.Refused n
+
+abbrev pub recordScoreIn : Result → Record → RecordScore
+recordScoreIn r (record·case.Header s) = record·score.NoPlay
+recordScoreIn r (record·case.Break b) = record·score.NoPlay
+recordScoreIn r (record·case.Object o) = record·score.NoPlay
+recordScoreIn r (record·case.Play p) = record·score.Play (scoredIn r p)
+
+-- behind a record: the map ends there unless it is a play, whose refusal has the play's offset
+abbrev pub walkedBehind : Walk → Reader → RecordScore → Walked
+walkedBehind w next record·score.NoPlay = walked.Next (record { reader = next; end = next .at; wanted = w .wanted })
+walkedBehind w next (record·score.Play (scored.Refused n)) = walked.Refused n (w .reader .at)
+walkedBehind w next (record·score.Play (scored.Score s)) = walked.Next (record { reader = next; end = w .end; wanted = wantedAfter (w .wanted) s })
+
+abbrev pub walkedStep : Walk → Result → Step → Walked
+walkedStep w map (step.Refused n at) = walked.Refused n at
+walkedStep w map (step.Next item next) = walkedBehind w next (recordScoreIn map item)
+
+-- one record of a file
+abbrev pub walkedOf : List ℕ → Walk → Walked
+walkedOf s w = walkedStep w (fileOf (take (w .end) s)) (stepOf (w .reader) (recordOf (drop (w .reader .at) s) (w .reader .counts)))
+
+-- at the end of a file
+abbrev pub playsOf : ℕ → Outcome Scores → Plays
+playsOf i (refusal n at) = plays.Refused n at
+playsOf i (values s) = plays.Good (length (s .map .objects)) (wantedOf i (s .plays))

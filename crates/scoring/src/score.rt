@@ -1,0 +1,90 @@
+// The score of a map file, of a play on it, and of a play in it.
+use crate::play_score::PlayScore;
+use crate::play_score::Scored;
+use crate::play_score::has_bad_mods;
+use crate::play_score::score_on;
+use crate::plays::Plays;
+use crate::plays::Wanted;
+use crate::plays::check_plays;
+use records::play::Play;
+use simulator::attributes::ScoreAttributes;
+use simulator::simulate::Simulated;
+use simulator::simulate::simulate;
+ghost use mathlib.Core.Path.{_≡_};
+ghost use Rattle.records.specs.File.{fileOf};
+ghost use Rattle.scoring.specs.Scores.{scoresOf, mapScoreOf, givenAnswer, givenScore, givenPlayOf, listedPlayOf};
+
+pub enum MapScore {
+    Map(ScoreAttributes),
+    Refused { number: u8, offset: usize },
+}
+
+pub enum GivenPlay {
+    Score(PlayScore),
+    Refused { number: u8, offset: usize },
+}
+
+pub enum ListedPlay {
+    Score(PlayScore),
+    NoPlay,
+    Refused { number: u8, offset: usize },
+}
+
+// The attributes of all objects of a map file.
+pub fn score_map(s: &[u8]) -> MapScore
+    ensures { λ r. ⌜ r ≡ mapScoreOf (scoresOf (fileOf (now (s .entry)))) ⌝ }
+{
+    match check_plays(s, 0) {
+        Plays::Refused { number, offset } => MapScore::Refused { number, offset },
+        Plays::Good { objects, wanted: _ } => match simulate(s, objects) {
+            Simulated::Refused { number, offset } => MapScore::Refused { number, offset },
+            Simulated::Map(a) => MapScore::Map(a),
+        },
+    }
+}
+
+// A play that is not in the file has no offset: its refusals are at 0.
+fn score_given(play: Play, a: ScoreAttributes) -> GivenPlay
+    ensures { λ r. ⌜ r ≡ givenAnswer (givenScore play a) ⌝ }
+{
+    let mods = play.mods;
+    if has_bad_mods(mods) {
+        return GivenPlay::Refused {
+            number: 8,
+            offset: 0,
+        };
+    }
+    match score_on(play, a) {
+        Scored::Refused(number) => GivenPlay::Refused { number, offset: 0 },
+        Scored::Score(score) => GivenPlay::Score(score),
+    }
+}
+
+// The score of a play on a map file.
+pub fn score_play(s: &[u8], play: Play) -> GivenPlay
+    ensures { λ r. ⌜ r ≡ givenPlayOf play (scoresOf (fileOf (now (s .entry)))) ⌝ }
+{
+    match check_plays(s, 0) {
+        Plays::Refused { number, offset } => GivenPlay::Refused { number, offset },
+        Plays::Good {
+            objects: _,
+            wanted: _,
+        } => match simulate(s, play.passed_objects as u64) {
+            Simulated::Refused { number, offset } => GivenPlay::Refused { number, offset },
+            Simulated::Map(a) => score_given(play, a),
+        },
+    }
+}
+
+// The score of the play at an index of a map file.
+pub fn score_play_at(s: &[u8], index: u64) -> ListedPlay
+    ensures { λ r. ⌜ r ≡ listedPlayOf index (scoresOf (fileOf (now (s .entry)))) ⌝ }
+{
+    match check_plays(s, index) {
+        Plays::Refused { number, offset } => ListedPlay::Refused { number, offset },
+        Plays::Good { objects: _, wanted } => match wanted {
+            Wanted::Ahead(_) => ListedPlay::NoPlay,
+            Wanted::Is(score) => ListedPlay::Score(score),
+        },
+    }
+}

@@ -1,4 +1,4 @@
--- What the loop over the plays of a file keeps: the scores of the plays read so far are those of the definition, and the map before them is a
+-- What a loop over the plays of a file keeps: the scores of the plays read so far are those of the definition, and the map before them is a
 -- file of its own. Assumes nothing.
 use mathlib.Core.Path.{_≡_, refl, sym, ap, _∙_, subst}
 use mathlib.Core.Bool.{Bool, true, false}
@@ -33,7 +33,7 @@ use Rattle.scoring.specs.declared.plays.Walk.{Walk}
 use Rattle.scoring.specs.declared.plays.Walked.{Walked}
 use Rattle.scoring.specs.declared.plays.Walked.the-variants as walked
 use Rattle.scoring.specs.declared.plays.RecordScore.the-variants as record·score
-use Rattle.scoring.specs.declared.plays.Plays.the-variants as plays
+use Rattle.scoring.specs.declared.plays.Plays.the-variants as answer
 use Rattle.scoring.proofs.Lists.{scores-none, scores-more, scores-refused, refused-more, wanted-more}
 
 never : {A : Type 0} → _≡_ {A = ℕ} 0 1 → A
@@ -72,39 +72,27 @@ from-refuses (suc fuel) s f n at e =
     go more true (refused k) q = stop-refuses f n at k (f .at) e
     go more true (good r) q = more r q
 
--- ---- the invariant
-pub record Playing (s : List ℕ) (i : ℕ) (w : Walk) : Type 0 where
+-- ---- what was read of a file, with the scores of the plays read so far
+pub record Played (s : List ℕ) (reader : Reader) (end : ℕ) (scores : List PlayScore) : Type 0 where
   pub file : File
-  pub kept : Kept s file (w .reader)
-  pub scores : List PlayScore
+  pub kept : Kept s file reader
   pub same : playScores (file .map) (file .plays) ≡ values scores
-  pub wanted : w .wanted ≡ wantedOf i scores
   -- what was read when the map ended
   pub map-file : File
   pub map-chain : Chain s map-file
-  pub map-end : map-file .at ≡ w .end
+  pub map-end : map-file .at ≡ end
   pub map-same : map-file .map ≡ file .map
   pub map-begun : 0 < file .last → 0 < map-file .last
 
-pub playing-start : (s : List ℕ) (i : ℕ) → Playing s i (walkStart i)
-unfolding playScores wantedOf
-playing-start s i = record {
-  file = fresh;
-  kept = kept-start s;
-  scores = [];
-  same = refl;
-  wanted = refl;
-  map-file = fresh;
-  map-chain = start;
-  map-end = refl;
-  map-same = refl;
-  map-begun = λ h. h;
-}
+pub played-start : (s : List ℕ) → Played s freshOf 0 []
+unfolding playScores
+played-start s =
+    record { file = fresh; kept = kept-start s; same = refl; map-file = fresh; map-chain = start; map-end = refl; map-same = refl; map-begun = λ h. h }
 
-pub playing-inside : {s : List ℕ} {i : ℕ} {w : Walk} → Playing s i w → w .end ≤ length s
-playing-inside {s = s} k = let h = chain-inside s (k .map-file) (k .map-chain) in omega (arith, h, k .map-end)
+module _ {s : List ℕ} {reader : Reader} {end : ℕ} {scores : List PlayScore} (k : Played s reader end scores) where
+  pub played-inside : end ≤ length s
+  played-inside = let h = chain-inside s (k .map-file) (k .map-chain) in omega (arith, h, k .map-end)
 
-module _ {s : List ℕ} {i : ℕ} {w : Walk} (k : Playing s i w) where
   abbrev f : File
   f = k .file
 
@@ -112,36 +100,31 @@ module _ {s : List ℕ} {i : ℕ} {w : Walk} (k : Playing s i w) where
   g = k .map-file
 
   -- the map before the plays, as a file
-  map-is : 0 < f .last → fileOf (take (w .end) s) ≡ accepted g
+  map-is : 0 < f .last → fileOf (take end s) ≡ accepted g
   map-is h =
-      let inside = playing-inside k in
-      let whole : take (w .end) s ++ drop (w .end) s ≡ s = take-append-drop (w .end) s in
-      let size : g .at ≡ length (take (w .end) s) = k .map-end ∙ sym (length-take-le (w .end) s inside) in
+      let inside = played-inside in
+      let whole : take end s ++ drop end s ≡ s = take-append-drop end s in
+      let size : g .at ≡ length (take end s) = k .map-end ∙ sym (length-take-le end s inside) in
       let last = k .map-begun h in
-      part-file (take (w .end) s) (drop (w .end) s) g (subst (λ (l : List ℕ). Chain l g) (sym whole) (k .map-chain)) size
+      part-file (take end s) (drop end s) g (subst (λ (l : List ℕ). Chain l g) (sym whole) (k .map-chain)) size
       ∙ simp (ne-eqb (g .last) 0 (λ z. (omega (arith, last, z))))
 
-  -- ---- a record that refuses the file
-  pub playing-stop : w .reader .at < length s → (n at : ℕ) → step.Refused n at ≡ stepOf (w .reader) (recordOf (drop (w .reader .at) s) (w .reader .counts))
-      → plays.Refused n at ≡ playsOf i (scoresOf (fileOf s))
-  playing-stop h n at e = rw (kept-stop s f (w .reader) (k .kept) h n at e) (rw (k .same))
-
   -- ---- the end of the file
-  module _ (h : length s ≤ w .reader .at) where
+  module _ (h : length s ≤ reader .at) where
     abbrev read : fileOf s ≡ ended f
-    read = all-read s f (w .reader) (k .kept) h
+    read = all-read s f reader (k .kept) h
 
-    pub playing-none : w .reader .counts .last ≡ 0 → plays.Refused 3 0 ≡ playsOf i (scoresOf (fileOf s))
-    playing-none e = rw read (simp (eq-eqb (f .last) 0 (sym (seen f (k .kept .viewed) .last) ∙ e)) (rw (k .same)))
+    pub played-none : reader .counts .last ≡ 0 → scoresOf (fileOf s) ≡ refusal 3 0
+    played-none e = rw read (simp (eq-eqb (f .last) 0 (sym (seen f (k .kept .viewed) .last) ∙ e)) (rw (k .same)))
 
-    pub playing-end : (w .reader .counts .last ≡ 0 → ⊥) → plays.Good (w .reader .counts .objects) (w .wanted) ≡ playsOf i (scoresOf (fileOf s))
-    playing-end e =
-        rw read
-        (simp (ne-eqb (f .last) 0 (λ z. e (seen f (k .kept .viewed) .last ∙ z)))
-        (rw (k .same) (ap (λ (n : ℕ). plays.Good n (w .wanted)) (seen f (k .kept .viewed) .objects) ∙ ap (plays.Good (length (f .map .objects))) (k .wanted))))
+    pub played-end : (reader .counts .last ≡ 0 → ⊥) → scoresOf (fileOf s) ≡ values (record { map = f .map; plays = scores })
+    played-end e = rw read (simp (ne-eqb (f .last) 0 (λ z. e (seen f (k .kept .viewed) .last ∙ z))) (rw (k .same)))
+
+    pub played-objects : reader .counts .objects ≡ length (f .map .objects)
+    played-objects = seen f (k .kept .viewed) .objects
 
 -- ---- one more record
-module _ {s : List ℕ} {i : ℕ} {w : Walk} (k : Playing s i w) (h : w .reader .at < length s) where
+module _ {s : List ℕ} (w : Walk) {scores : List PlayScore} (k : Played s (w .reader) (w .end) scores) (h : w .reader .at < length s) where
   abbrev here : File
   here = k .file
 
@@ -151,37 +134,30 @@ module _ {s : List ℕ} {i : ℕ} {w : Walk} (k : Playing s i w) (h : w .reader 
 
   -- a record of the map: no play was read yet, and the map now ends behind it
   map-step : (x : Content) (n : ℕ) (next : Reader) → foundAt s here ≡ good (x, n) → placeOf x ≤ 3 → with-record here (x, n) .plays ≡ here .plays
-      → Kept s (with-record here (x, n)) next → Playing s i (record { reader = next; end = next .at; wanted = w .wanted })
+      → Kept s (with-record here (x, n)) next → Played s next (next .at) scores
   map-step x n next q early same kept =
       let before = found-ordered s here (x, n) q in
       let nothing : here .plays ≡ [] = chain-plays s here (k .kept .chain) (omega (arith, before, early)) in
-      let none : values (k .scores) ≡ values [] = sym (k .same) ∙ ap (playScores (here .map)) nothing ∙ scores-none (here .map) in
+      let none : playScores (here .map) (here .plays) ≡ values [] = ap (playScores (here .map)) nothing ∙ scores-none (here .map) in
       record {
         file = with-record here (x, n);
         kept = kept;
-        scores = [];
-        same = ap (playScores (with-record here (x, n) .map)) (same ∙ nothing) ∙ scores-none (with-record here (x, n) .map);
-        wanted = k .wanted ∙ ap (wantedOf i) (values-is none);
+        same = ap (playScores (with-record here (x, n) .map)) (same ∙ nothing) ∙ scores-none (with-record here (x, n) .map) ∙ sym none ∙ k .same;
         map-file = with-record here (x, n);
         map-chain = kept .chain;
         map-end = sym (seen (with-record here (x, n)) (kept .viewed) .at);
         map-same = refl;
         map-begun = λ b. b;
       }
-    where
-      values-is : {a b : List PlayScore} → _≡_ {A = Outcome (List PlayScore)} (values a) (values b) → a ≡ b
-      values-is e = cc
 
   -- a play that is good
   play-step : (p : Play) (n : ℕ) (next : Reader) (score : PlayScore) → foundAt s here ≡ good (play p, n) → playScoreOn (here .map) p ≡ good score
-      → Kept s (with-record here (play p, n)) next → Playing s i (record { reader = next; end = w .end; wanted = wantedAfter (w .wanted) score })
+      → Kept s (with-record here (play p, n)) next → Played s next (w .end) (scores ++ (score ∷ []))
   unfolding with-record
   play-step p n next score found q kept = record {
     file = with-record here (play p, n);
     kept = kept;
-    scores = k .scores ++ (score ∷ []);
-    same = scores-more (here .map) (here .at) p (here .plays) (k .scores) (k .same) score q;
-    wanted = ap (λ (x : Wanted). wantedAfter x score) (k .wanted) ∙ wanted-more i (k .scores) score;
+    same = scores-more (here .map) (here .at) p (here .plays) scores (k .same) score q;
     map-file = k .map-file;
     map-chain = k .map-chain;
     map-end = k .map-end;
@@ -196,53 +172,83 @@ module _ {s : List ℕ} {i : ℕ} {w : Walk} (k : Playing s i w) (h : w .reader 
   play-stop p n number chain q =
       let behind = with-record here (play p, n) in
       let on = chain-on s behind chain in
-      let all = scores-refused (here .map) (here .at) p (here .plays) (k .scores) (k .same) number q in
+      let all = scores-refused (here .map) (here .at) p (here .plays) scores (k .same) number q in
       subst (Refuses number (here .at)) (on .rest) (from-refuses (on .fuel) s behind number (here .at) (record { late = refl; refuses = all }))
 
-  -- ---- what a step of the code leaves
+  -- what a step of the code leaves
   pub data After : Walked → Type 0 where
-    goes : {next : Walk} → w .reader .at < next .reader .at → Playing s i next → After (walked.Next next)
-    stops : {n at : ℕ} → plays.Refused n at ≡ playsOf i (scoresOf (fileOf s)) → After (walked.Refused n at)
+    passes : {next : Walk} → w .reader .at < next .reader .at → next .wanted ≡ w .wanted → Played s (next .reader) (next .end) scores → After (walked.Next next)
+    plays : {next : Walk} (score : PlayScore) → w .reader .at < next .reader .at → next .wanted ≡ wantedAfter (w .wanted) score
+        → Played s (next .reader) (next .end) (scores ++ (score ∷ [])) → After (walked.Next next)
+    stops : {n at : ℕ} → scoresOf (fileOf s) ≡ refusal n at → After (walked.Refused n at)
 
   -- behind a play: its score is that on the map's own file
   play-after : (p : Play) (n : ℕ) (next : Reader) → foundAt s here ≡ good (play p, n) → Kept s (with-record here (play p, n)) next → w .reader .at < next .at
       → After (walkedBehind w next (recordScoreIn (fileOf (take (w .end) s)) (contentView (play p))))
   play-after p n next found kept ahead =
       let map : scoredIn (fileOf (take (w .end) s)) p ≡ scoredOf (playScoreOn (here .map) p) =
-      ap (λ (r : Result). scoredIn r p) (map-is k (found-begun p n found)) ∙ ap (λ (m : Map). scoredOf (playScoreOn m p)) (k .map-same) in
+          ap (λ (r : Result). scoredIn r p) (map-is k (found-begun p n found)) ∙ ap (λ (m : Map). scoredOf (playScoreOn m p)) (k .map-same) in
       subst (λ (x : Scored). After (walkedBehind w next (record·score.Play x))) (sym map) (go (playScoreOn (here .map) p) refl)
     where
       go : (x : Checked PlayScore) → playScoreOn (here .map) p ≡ x → After (walkedBehind w next (record·score.Play (scoredOf x)))
-      go (refused number) q =
-          stops (ap (λ (o : ℕ). plays.Refused number o) (seen here (k .kept .viewed) .at) ∙ sym (ap (playsOf i) (play-stop p n number (kept .chain) q)))
-      go (good score) q = goes ahead (play-step p n next score found q kept)
+      go (refused number) q = stops (play-stop p n number (kept .chain) q ∙ ap (refusal number) (sym (seen here (k .kept .viewed) .at)))
+      go (good score) q = plays score ahead refl (play-step p n next score found q kept)
 
   content-after : (x : Content) (n : ℕ) (next : Reader) → foundAt s here ≡ good (x, n) → Kept s (with-record here (x, n)) next → w .reader .at < next .at
       → After (walkedBehind w next (recordScoreIn (fileOf (take (w .end) s)) (contentView x)))
   unfolding with-record
-  content-after (header t) n next found kept ahead = goes ahead (map-step (header t) n next found (omega arith) refl kept)
-  content-after (break b) n next found kept ahead = goes ahead (map-step (break b) n next found (omega arith) refl kept)
-  content-after (object o) n next found kept ahead = goes ahead (map-step (object o) n next found (omega arith) refl kept)
+  content-after (header t) n next found kept ahead = passes ahead refl (map-step (header t) n next found (omega arith) refl kept)
+  content-after (break b) n next found kept ahead = passes ahead refl (map-step (break b) n next found (omega arith) refl kept)
+  content-after (object o) n next found kept ahead = passes ahead refl (map-step (object o) n next found (omega arith) refl kept)
   content-after (play p) n next found kept ahead = play-after p n next found kept ahead
 
   pub after : After (walkedOf s w)
   after = go (stepOf (w .reader) (recordOf (drop (w .reader .at) s) (w .reader .counts))) refl
     where
       go : (x : Step) → stepOf (w .reader) (recordOf (drop (w .reader .at) s) (w .reader .counts)) ≡ x → After (walkedStep w (fileOf (take (w .end) s)) x)
-      go (step.Refused n at) q = stops (playing-stop k h n at (sym q))
+      go (step.Refused n at) q = stops {n = n} {at = at} (rw (kept-stop s here (w .reader) (k .kept) h n at (sym q)) (rw (k .same)))
       go (step.Next item next) q =
           let m = kept-step s here (w .reader) (k .kept) h item next (sym q) in
           rw (m .same) (content-after (m .content .0) (m .content .1) next (m .found) (m .kept) (m .ahead))
 
-  -- the same, of what the code was told
-  pub after-next : (next : Walk) → walked.Next next ≡ walkedOf s w → (w .reader .at < next .reader .at) × Playing s i next
-  after-next next e = out (subst After (sym e) after)
-    where
-      out : After (walked.Next next) → (w .reader .at < next .reader .at) × Playing s i next
-      out (goes a p) = (a, p)
+-- ---- the loop that keeps the wanted play
+pub record Playing (s : List ℕ) (i : ℕ) (w : Walk) : Type 0 where
+  pub scores : List PlayScore
+  pub played : Played s (w .reader) (w .end) scores
+  pub wanted : w .wanted ≡ wantedOf i scores
 
-  pub after-stop : (n at : ℕ) → walked.Refused n at ≡ walkedOf s w → plays.Refused n at ≡ playsOf i (scoresOf (fileOf s))
-  after-stop n at e = out (subst After (sym e) after)
-    where
-      out : After (walked.Refused n at) → plays.Refused n at ≡ playsOf i (scoresOf (fileOf s))
-      out (stops q) = q
+pub playing-start : (s : List ℕ) (i : ℕ) → Playing s i (walkStart i)
+unfolding wantedOf
+playing-start s i = record { scores = []; played = played-start s; wanted = refl }
+
+module _ {s : List ℕ} {i : ℕ} {w : Walk} (k : Playing s i w) where
+  module _ (h : w .reader .at < length s) where
+    pub playing-next : (next : Walk) → walked.Next next ≡ walkedOf s w → (w .reader .at < next .reader .at) × Playing s i next
+    playing-next next e = out (subst (After w (k .played) h) (sym e) (after w (k .played) h))
+      where
+        out : After w (k .played) h (walked.Next next) → (w .reader .at < next .reader .at) × Playing s i next
+        out (passes a q p) = (a, record { scores = k .scores; played = p; wanted = q ∙ k .wanted })
+        out (plays score a q p) = (
+          a,
+          record {
+            scores = k .scores ++ (score ∷ []);
+            played = p;
+            wanted = q ∙ ap (λ (x : Wanted). wantedAfter x score) (k .wanted) ∙ wanted-more i (k .scores) score;
+          },
+        )
+
+    pub playing-stop : (n at : ℕ) → walked.Refused n at ≡ walkedOf s w → answer.Refused n at ≡ playsOf i (scoresOf (fileOf s))
+    playing-stop n at e = out (subst (After w (k .played) h) (sym e) (after w (k .played) h))
+      where
+        out : After w (k .played) h (walked.Refused n at) → answer.Refused n at ≡ playsOf i (scoresOf (fileOf s))
+        out (stops q) = sym (ap (playsOf i) q)
+
+  module _ (h : length s ≤ w .reader .at) where
+    pub playing-none : w .reader .counts .last ≡ 0 → answer.Refused 3 0 ≡ playsOf i (scoresOf (fileOf s))
+    playing-none e = sym (ap (playsOf i) (played-none (k .played) h e))
+
+    pub playing-end : (w .reader .counts .last ≡ 0 → ⊥) → answer.Good (w .reader .counts .objects) (w .wanted) ≡ playsOf i (scoresOf (fileOf s))
+    playing-end e =
+        ap (λ (n : ℕ). answer.Good n (w .wanted)) (played-objects (k .played) h)
+        ∙ ap (answer.Good (length (k .played .file .map .objects))) (k .wanted)
+        ∙ sym (ap (playsOf i) (played-end (k .played) h e))

@@ -5,7 +5,7 @@ use denote.Ref.{now}
 use borrow.Author.Needs.{needs}
 use lib.ListN.{length}
 use Rattle.records.proofs.Laws.{so}
-use Rattle.scoring.proofs.Playing.{Playing, playing-start, playing-inside, after-next, after-stop, playing-none, playing-end}
+use Rattle.scoring.proofs.Playing.{Playing, playing-start, played-inside, playing-next, playing-stop, playing-none, playing-end}
 use Rattle.scoring.proofs.plays.check_plays.Statement.{statement}
 use Rattle.scoring.proofs.plays.check_plays.Tie as tie
 
@@ -22,22 +22,22 @@ loop-holds : tie.Need-loop-holds Inv-loop μ-loop
 loop-holds c = rw (c .new .ensures) (playing-start (now (c .before .before .args .s)) (c .before .before .args .index))
 
 step-requires : tie.Need-step-requires Inv-loop μ-loop
-step-requires c κs = playing-inside (c .before .before .loop .inv)
+step-requires c κs = played-inside (c .before .before .loop .inv .played)
 
 enum-known-next : tie.Need-enum-known-next Inv-loop μ-loop
 enum-known-next c = search needs
 
 loop-less : tie.Need-loop-less Inv-loop μ-loop
-loop-less c = let a = after-next (c .before .before .before .before .before .before .loop .inv) (c .before .before .before .before .if1 .taken) _ (so (c .before .next .given .1) (c .before .before .before .step .ensures)) .0 in let h = c .before .before .before .before .if1 .taken in omega (arith, a, h)
+loop-less c = let a = playing-next (c .before .before .before .before .before .before .loop .inv) (c .before .before .before .before .if1 .taken) _ (so (c .before .next .given .1) (c .before .before .before .step .ensures)) .0 in let h = c .before .before .before .before .if1 .taken in omega (arith, a, h)
 
 loop-again : tie.Need-loop-again Inv-loop μ-loop
-loop-again c = after-next (c .before .before .before .before .before .before .loop .inv) (c .before .before .before .before .if1 .taken) _ (so (c .before .next .given .1) (c .before .before .before .step .ensures)) .1
+loop-again c = playing-next (c .before .before .before .before .before .before .loop .inv) (c .before .before .before .before .if1 .taken) _ (so (c .before .next .given .1) (c .before .before .before .step .ensures)) .1
 
 enum-known-number : tie.Need-enum-known-number Inv-loop μ-loop
 enum-known-number c = search needs
 
 returns : tie.Need-returns Inv-loop μ-loop
-returns c = after-stop (c .before .before .before .before .before .before .loop .inv) (c .before .before .before .before .if1 .taken) _ _ (so (c .before .number .given .1) (c .before .before .before .step .ensures))
+returns c = playing-stop (c .before .before .before .before .before .before .loop .inv) (c .before .before .before .before .if1 .taken) _ _ (so (c .before .number .given .1) (c .before .before .before .step .ensures))
 
 returns-2 : tie.Need-returns-2 Inv-loop μ-loop
 returns-2 c = playing-none (c .before .before .before .before .loop .inv) (c .before .before .if1 .left) (c .if2 .taken)

@@ -1,0 +1,3 @@
+-- Laws of the definitions that belong to no one function.
+pub mod Numbers
+pub mod Space

@@ -1,0 +1,4 @@
+pub mod Ascii
+mod Examples
+pub mod Numbers
+pub mod Space

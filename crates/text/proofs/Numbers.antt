@@ -8,8 +8,7 @@ use mathlib.Core.Bool.{Bool, true, false, cond}
 use mathlib.Core.List.{List, [], _∷_, _++_}
 use lib.ListN.{length, length-append}
 use lib.Ieee.{Float, isNan, toBits, binary64}
-use borrow.Author.Tests.{lt-ltb, le-ltb, ltb-true}
-use lib.Dec.{ltb}
+use borrow.Author.Tests.{lt-ltb, le-ltb}
 use Rattle.io.specs.Digits.{glyph, digits, Fewest}
 use Rattle.text.specs.Ascii.{ascii}
 use Rattle.text.specs.Numbers.{decimalUpTo, decimalOf, valueFrom, hexOf, floatText}
@@ -119,9 +118,13 @@ unfolding decimalUpTo
 length-up-to zero k n h = omega arith
 length-up-to (suc most) k n h = length-more most k n h (λ j. length-up-to most j (n / 10)) (decLe 10 n)
 
-pub length-decimal : (n : ℕ) → n < 2 ^ 64 → length (decimalOf n) ≤ 20
+-- a number below 10 ^ (k + 1) has at most k + 1 digits
+pub length-below : (k n : ℕ) → n < 10 ^ suc k → length (decimalOf n) ≤ suc k
 unfolding decimalOf
-length-decimal n h = length-up-to (suc n) 19 n (omega arith)
+length-below k n h = length-up-to (suc n) k n h
+
+pub length-decimal : (n : ℕ) → n < 2 ^ 64 → length (decimalOf n) ≤ 20
+length-decimal n h = length-below 19 n (omega arith)
 
 pub length-hex : (n : ℕ) → length (hexOf n) ≡ 16
 unfolding hexOf

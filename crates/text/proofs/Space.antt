@@ -1,11 +1,11 @@
 -- Laws of a text in a space: two texts one behind the other are one text. Each goes by the space and the place, since `putAt` and `behind` step
 -- through both. Assumes nothing.
-use mathlib.Core.Path.{_≡_, refl, sym, ap, _∙_}
+use mathlib.Core.Path.{_≡_, ap, _∙_}
 use Prim.Native.Nat.{ℕ, zero, suc, _+_, _-_, _≤_, min}
-use native.Mathlib.Nat.{suc-add, zero-add, add-zero, sub-zero, zero-sub, suc-sub-suc, suc-min-suc, zero-min, min-zero}
+use native.Mathlib.Nat.{suc-add, zero-add, add-zero, sub-zero, zero-sub, suc-sub-suc, suc-min-suc, min-zero}
 use native.Mathlib.Omega.{arith}
-use mathlib.Core.List.{List, [], _∷_, _++_, append-nil, append-assoc}
-use lib.ListN.{length, take, drop, length-append, length-take, length-drop, take-append-drop, drop-of-length-le}
+use mathlib.Core.List.{List, [], _∷_, _++_, append-nil}
+use lib.ListN.{length, take, drop, length-append, take-append-drop}
 use lib.Seq.{take-all, take-nil, drop-nil, take-append-seam}
 use Rattle.text.specs.Space.{putAt, behind}
 
@@ -65,3 +65,26 @@ put-front l t h = simp (sub-zero, zero-add, take-all (length l) t h)
 
 pub take-put-front : (l t : List ℕ) → length t ≤ length l → take (length t) (putAt l 0 t) ≡ t
 take-put-front l t h = simp (put-front l t h) (take-append-seam t (drop (length t) l))
+
+-- ---- a text written piece by piece
+
+-- after the text t was written to l from `at` on, the space is s, and p is the place behind it
+pub record Written (l : List ℕ) (at : ℕ) (t s : List ℕ) (p : ℕ) : Type 0 where
+  pub place : p ≡ behind l at t
+  pub space : s ≡ putAt l at t
+
+-- a function's two promises
+abbrev pub Puts : List ℕ → ℕ → List ℕ → List ℕ → ℕ → Type 0
+Puts l at t s p = (p ≡ behind l at t) × (s ≡ putAt l at t)
+
+pub first : (l : List ℕ) (at : ℕ) (t : List ℕ) {s : List ℕ} {p : ℕ} → Puts l at t s p → Written l at t s p
+first l at t (place, space) = record { place = place; space = space }
+
+-- one more piece
+pub next : {l : List ℕ} {at : ℕ} {t s : List ℕ} {p : ℕ} → Written l at t s p → (y : List ℕ) {s′ : List ℕ} {p′ : ℕ} → Puts s p y s′ p′
+    → Written l at (t ++ y) s′ p′
+next {l} {at} {t} {s} {p} w y (place, space) =
+    record {
+      place = rw (w .space, w .place) at place ∙ behind-behind l at t y;
+      space = rw (w .space, w .place) at space ∙ put-put l at t y;
+    }

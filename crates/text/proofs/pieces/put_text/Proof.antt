@@ -1,6 +1,6 @@
 -- `text::pieces::put_text` is right since each turn copies the next byte to its place, and the loop ends where the text or the space does. Assumes nothing.
 use mathlib.Core.Path.{_≡_, refl, sym, ap, _∙_}
-use mathlib.Core.List.{List, [], _++_}
+use mathlib.Core.List.{List}
 use Prim.Native.Nat.{ℕ, suc, _+_, _-_, _≤_, _<_, min}
 use native.Mathlib.Nat.{lt-of-not-le, le-of-lt}
 use native.Mathlib.Decide.{decLe}
@@ -12,7 +12,7 @@ use Rattle.text.specs.Space.{putAt, behind}
 use Rattle.text.proofs.pieces.put_text.Statement.{statement}
 use Rattle.text.proofs.pieces.put_text.Tie as tie
 
--- the bytes before place i are copied
+-- a turn of the loop: the bytes before place i are copied, and then the byte at i
 copy-one : (l : List ℕ) (at : ℕ) (t : List ℕ) (i : ℕ) → at ≤ i → i < length l → i - at < length t
     → set (paste l at t (i - at)) i (getD t (i - at) 0) ≡ paste l at t (i + 1 - at)
 copy-one l at t i h in-space in-text =

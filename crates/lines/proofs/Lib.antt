@@ -1,0 +1,2 @@
+-- How long the lines are at most.
+pub mod Lengths

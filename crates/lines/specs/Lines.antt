@@ -10,6 +10,7 @@ use Rattle.estimates.specs.declared.calculator.Estimates.{Estimates}
 use Rattle.estimates.specs.declared.legacy_score_miss_calc.MissCount.{MissCount}
 use Rattle.estimates.specs.declared.legacy_score_miss_calc.MissCount.the-variants as misses
 
+-- a number in decimal
 unfoldable pub numberField : ℕ → List ℕ
 numberField n = ascii " " ++ decimalOf n
 

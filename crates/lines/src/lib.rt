@@ -10,6 +10,7 @@ ghost use Rattle.text.specs.Ascii.{ascii};
 ghost use Rattle.text.specs.Space.{putAt, behind};
 ghost use Rattle.lines.specs.Lines.{numberField, floatField, scoreBasedField, mapLine, playLine, refusedLine};
 
+// A space and a number.
 fn put_number(space: &mut [u8], at: usize, n: u64) -> usize
     ensures { λ r. ⌜ r ≡ behind (now (space .entry)) at (numberField n) ⌝ }
     ensures { λ _. ⌜ now (space .exit) ≡ putAt (now (space .entry)) at (numberField n) ⌝ }
@@ -18,6 +19,7 @@ fn put_number(space: &mut [u8], at: usize, n: u64) -> usize
     put_decimal(space, at, n)
 }
 
+// A space and the bits of a float.
 fn put_bits(space: &mut [u8], at: usize, x: f64) -> usize
     ensures { λ r. ⌜ r ≡ behind (now (space .entry)) at (floatField x) ⌝ }
     ensures { λ _. ⌜ now (space .exit) ≡ putAt (now (space .entry)) at (floatField x) ⌝ }

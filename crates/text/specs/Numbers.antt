@@ -7,7 +7,7 @@ use lib.Ieee.{Float, binary64, isNan, toBits}
 use Rattle.text.specs.Ascii.{ascii}
 use Rattle.io.specs.Digits.{glyph, digits}
 
--- a number below 10 is its digit; any other is a tenth of it, and its last digit. The first argument bounds how many digits there are.
+-- a number below 10 is its digit; any other the digits of its tenth, and then its last digit. The first argument bounds how many there are.
 unfoldable pub decimalUpTo : ℕ → ℕ → List ℕ
 decimalUpTo zero n = []
 decimalUpTo (suc k) n = elim (ltb n 10) [ true ↦ glyph n ∷ [] | false ↦ decimalUpTo k (n / 10) ++ (glyph (n % 10) ∷ []) ]
@@ -16,7 +16,7 @@ decimalUpTo (suc k) n = elim (ltb n 10) [ true ↦ glyph n ∷ [] | false ↦ de
 unfoldable pub decimalOf : ℕ → List ℕ
 decimalOf n = decimalUpTo (suc n) n
 
--- decimal digits behind digits that say v, read as one number
+-- the number that decimal digits say, where digits in front of them say v
 unfoldable pub valueFrom : ℕ → List ℕ → ℕ
 valueFrom v [] = v
 valueFrom v (d ∷ t) = valueFrom (v * 10 + (d - 48)) t
@@ -25,6 +25,6 @@ valueFrom v (d ∷ t) = valueFrom (v * 10 + (d - 48)) t
 unfoldable pub hexOf : ℕ → List ℕ
 hexOf n = digits 16 16 n
 
--- `nan`, or the bits of the number
+-- a float by its bits, and `nan` for what is not a number
 unfoldable pub floatText : Float → List ℕ
 floatText x = cond (isNan x) (ascii "nan") (hexOf (toBits binary64 x))

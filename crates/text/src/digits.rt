@@ -23,7 +23,7 @@ pub fn put_hex(space: &mut [u8], at: usize, n: u64) -> usize
     put_text(space, at, &digits[..count])
 }
 
-// A NaN by its name, since its bits may differ where it was made; any other float by its bits.
+// A float by its bits. A NaN is told by its name: any two count as equal, whatever their bits.
 pub fn put_float(space: &mut [u8], at: usize, x: f64) -> usize
     ensures { λ r. ⌜ r ≡ behind (now (space .entry)) at (floatText x) ⌝ }
     ensures { λ _. ⌜ now (space .exit) ≡ putAt (now (space .entry)) at (floatText x) ⌝ }

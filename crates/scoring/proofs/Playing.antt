@@ -187,7 +187,7 @@ module _ {s : List ℕ} (w : Walk) {scores : List PlayScore} (k : Played s (w .r
       → After (walkedBehind w next (recordScoreIn (fileOf (take (w .end) s)) (contentView (play p))))
   play-after p n next found kept ahead =
       let map : scoredIn (fileOf (take (w .end) s)) p ≡ scoredOf (playScoreOn (here .map) p) =
-          ap (λ (r : Result). scoredIn r p) (map-is k (found-begun p n found)) ∙ ap (λ (m : Map). scoredOf (playScoreOn m p)) (k .map-same) in
+      ap (λ (r : Result). scoredIn r p) (map-is k (found-begun p n found)) ∙ ap (λ (m : Map). scoredOf (playScoreOn m p)) (k .map-same) in
       subst (λ (x : Scored). After (walkedBehind w next (record·score.Play x))) (sym map) (go (playScoreOn (here .map) p) refl)
     where
       go : (x : Checked PlayScore) → playScoreOn (here .map) p ≡ x → After (walkedBehind w next (record·score.Play (scoredOf x)))

@@ -64,7 +64,7 @@ impl Wanted {
 }
 
 impl Walk {
-    fn new(index: u64) -> Self
+    pub fn new(index: u64) -> Self
         ensures { λ r. ⌜ r ≡ walkStart index ⌝ }
     {
         Walk {
@@ -121,7 +121,7 @@ fn score_record(map: &[u8], item: Record) -> RecordScore
     }
 }
 
-fn step(s: &[u8], walk: Walk) -> Walked
+pub fn step(s: &[u8], walk: Walk) -> Walked
     requires { ⌜ walk .end ≤ length (now s) ⌝ }
     ensures { λ r. ⌜ r ≡ walkedOf (now (s .entry)) walk ⌝ }
 {

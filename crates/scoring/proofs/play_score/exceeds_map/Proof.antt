@@ -14,14 +14,20 @@ returns c = simp (lt-ltb _ _ (rw (c .before .before .total-hits .ensures .0) at 
 
 returns-2 : tie.Need-returns-2
 unfolding exceeds
-returns-2 c = simp (le-ltb _ _ (rw (c .before .before .before .before .before .total-hits .ensures .0) at (c .before .before .before .if1 .left)), lt-ltb _ _ (c .if2 .taken))
+returns-2 c =
+    let at1 = c .before .before .before in
+    let at2 = at1 .before .before in
+    simp (le-ltb _ _ (rw (at2 .total-hits .ensures .0) at (at1 .if1 .left)), lt-ltb _ _ (c .if2 .taken))
 
 hits-exceed-requires : tie.Need-hits-exceed-requires
 hits-exceed-requires c κs = search needs
 
 returns-3 : tie.Need-returns-3
 unfolding exceeds
-returns-3 c = simp (le-ltb _ _ (rw (c .before .before .before .before .before .before .total-hits .ensures .0) at (c .before .before .before .before .if1 .left)), le-ltb _ _ (c .before .if2 .left)) (c .hits-exceed .ensures)
+returns-3 c =
+    let at1 = c .before .before .before .before in
+    let at2 = at1 .before .before in
+    simp (le-ltb _ _ (rw (at2 .total-hits .ensures .0) at (at1 .if1 .left)), le-ltb _ _ (c .before .if2 .left)) (c .hits-exceed .ensures)
 
 pub exceeds-map-spec : {M : Type 1} → statement M
 exceeds-map-spec =

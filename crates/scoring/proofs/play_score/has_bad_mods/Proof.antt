@@ -15,11 +15,19 @@ returns c = simp (so (c .before .has-unknown-flags .ensures) (c .if1 .taken))
 
 returns-2 : tie.Need-returns-2
 unfolding modsBad
-returns-2 c = simp (so (c .before .before .before .before .before .has-unknown-flags .ensures) (c .before .before .before .before .if1 .left), c .before .before .if2 .taken, c .if3 .taken)
+returns-2 c =
+    let at1 = c .before .before in
+    let at2 = at1 .before .before in
+    let at3 = at2 .before in
+    simp (so (at3 .has-unknown-flags .ensures) (at2 .if1 .left), at1 .if2 .taken, c .if3 .taken)
 
 returns-3 : tie.Need-returns-3
 unfolding modsBad
-returns-3 c = simp (so (c .before .before .before .before .before .has-unknown-flags .ensures) (c .before .before .before .before .if1 .left), c .before .before .if2 .taken, c .if3 .left)
+returns-3 c =
+    let at1 = c .before .before in
+    let at2 = at1 .before .before in
+    let at3 = at2 .before in
+    simp (so (at3 .has-unknown-flags .ensures) (at2 .if1 .left), at1 .if2 .taken, c .if3 .left)
 
 returns-4 : tie.Need-returns-4
 unfolding modsBad

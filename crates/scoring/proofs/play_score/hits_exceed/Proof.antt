@@ -25,7 +25,11 @@ cast-result c = search needs
 
 returns-3 : tie.Need-returns-3
 unfolding hitsExceed
-returns-3 c = simp (so (c .before .before .before .before .before .before .is-classic .ensures) (c .before .before .before .before .before .if1 .left), le-ltb _ _ (c .before .before .if2 .left), c .before .large-ticks .ensures .0)
+returns-3 c =
+    let at1 = c .before .before in
+    let at2 = at1 .before .before .before in
+    let at3 = at2 .before in
+    simp (so (at3 .is-classic .ensures) (at2 .if1 .left), le-ltb _ _ (at1 .if2 .left), c .before .large-ticks .ensures .0)
 
 pub hits-exceed-spec : {M : Type 1} → statement M
 hits-exceed-spec =

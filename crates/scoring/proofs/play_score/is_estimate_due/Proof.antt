@@ -18,14 +18,21 @@ is-present-requires c κs = search needs
 
 returns-2 : tie.Need-returns-2
 unfolding isDue
-returns-2 c = simp (so (c .before .before .before .is-classic .ensures) (not-false _ (c .before .before .if1 .left)), so (c .before .is-present .ensures) (not-true _ (c .if2 .taken)))
+returns-2 c =
+    let at1 = c .before .before in
+    let at2 = at1 .before in
+    simp (so (at2 .is-classic .ensures) (not-false _ (at1 .if1 .left)), so (c .before .is-present .ensures) (not-true _ (c .if2 .taken)))
 
 total-hits-requires : tie.Need-total-hits-requires
 total-hits-requires c κs = search needs
 
 returns-3 : tie.Need-returns-3
 unfolding isDue
-returns-3 c = simp (so (c .before .before .before .before .is-classic .ensures) (not-false _ (c .before .before .before .if1 .left)), so (c .before .before .is-present .ensures) (not-false _ (c .before .if2 .left)), c .total-hits .ensures .0)
+returns-3 c =
+    let at1 = c .before .before in
+    let at2 = at1 .before in
+    let at3 = at2 .before in
+    simp (so (at3 .is-classic .ensures) (not-false _ (at2 .if1 .left)), so (at1 .is-present .ensures) (not-false _ (c .before .if2 .left)), c .total-hits .ensures .0)
 
 pub is-estimate-due-spec : {M : Type 1} → statement M
 is-estimate-due-spec =

@@ -18,14 +18,21 @@ is-over-combo-requires c κs = search needs
 
 returns-2 : tie.Need-returns-2
 unfolding playScore _>>=_ _>>_ refuse_when_
-returns-2 c = simp (so (c .before .before .before .exceeds-map .ensures) (c .before .before .if1 .left), so (c .before .is-over-combo .ensures) (c .if2 .taken))
+returns-2 c =
+    let at1 = c .before .before in
+    let at2 = at1 .before in
+    simp (so (at2 .exceeds-map .ensures) (at1 .if1 .left), so (c .before .is-over-combo .ensures) (c .if2 .taken))
 
 calculate-requires : tie.Need-calculate-requires
 calculate-requires c κs = search needs
 
 returns-3 : tie.Need-returns-3
 unfolding playScore _>>=_ _>>_ refuse_when_
-returns-3 c = simp (so (c .before .before .before .before .exceeds-map .ensures) (c .before .before .before .if1 .left), so (c .before .before .is-over-combo .ensures) (c .before .if2 .left), c .calculate .ensures)
+returns-3 c =
+    let at1 = c .before .before in
+    let at2 = at1 .before in
+    let at3 = at2 .before in
+    simp (so (at3 .exceeds-map .ensures) (at2 .if1 .left), so (at1 .is-over-combo .ensures) (c .before .if2 .left), c .calculate .ensures)
 
 pub score-on-spec : {M : Type 1} → statement M
 score-on-spec =

@@ -28,16 +28,28 @@ enum-known-next : tie.Need-enum-known-next Inv-loop μ-loop
 enum-known-next c = search needs
 
 loop-less : tie.Need-loop-less Inv-loop μ-loop
-loop-less c = let a = playing-next (c .before .before .before .before .before .before .loop .inv) (c .before .before .before .before .if1 .taken) _ (so (c .before .next .given .1) (c .before .before .before .step .ensures)) .0 in let h = c .before .before .before .before .if1 .taken in omega (arith, a, h)
+loop-less c =
+    let at1 = c .before .before .before in
+    let at2 = at1 .before in
+    let at3 = at2 .before .before in
+    let a = playing-next (at3 .loop .inv) (at2 .if1 .taken) _ (so (c .before .next .given .1) (at1 .step .ensures)) .0 in let h = at2 .if1 .taken in omega (arith, a, h)
 
 loop-again : tie.Need-loop-again Inv-loop μ-loop
-loop-again c = playing-next (c .before .before .before .before .before .before .loop .inv) (c .before .before .before .before .if1 .taken) _ (so (c .before .next .given .1) (c .before .before .before .step .ensures)) .1
+loop-again c =
+    let at1 = c .before .before .before in
+    let at2 = at1 .before in
+    let at3 = at2 .before .before in
+    playing-next (at3 .loop .inv) (at2 .if1 .taken) _ (so (c .before .next .given .1) (at1 .step .ensures)) .1
 
 enum-known-number : tie.Need-enum-known-number Inv-loop μ-loop
 enum-known-number c = search needs
 
 returns : tie.Need-returns Inv-loop μ-loop
-returns c = playing-stop (c .before .before .before .before .before .before .loop .inv) (c .before .before .before .before .if1 .taken) _ _ (so (c .before .number .given .1) (c .before .before .before .step .ensures))
+returns c =
+    let at1 = c .before .before .before in
+    let at2 = at1 .before in
+    let at3 = at2 .before .before in
+    playing-stop (at3 .loop .inv) (at2 .if1 .taken) _ _ (so (c .before .number .given .1) (at1 .step .ensures))
 
 returns-2 : tie.Need-returns-2 Inv-loop μ-loop
 returns-2 c = playing-none (c .before .before .before .before .loop .inv) (c .before .before .if1 .left) (c .if2 .taken)

@@ -23,10 +23,17 @@ score-on-requires : tie.Need-score-on-requires
 score-on-requires c κs = search needs
 
 returns : tie.Need-returns
-returns c = in-refused (fileOf (now (c .before .before .before .before .before .before .args .map))) (c .before .before .before .before .before .before .args .play) _ _ (so (c .before .number .given .1) (c .before .before .before .simulate .ensures))
+returns c =
+    let at1 = c .before .before .before in
+    let at2 = at1 .before .before .before in
+    in-refused (fileOf (now (at2 .args .map))) (at2 .args .play) _ _ (so (c .before .number .given .1) (at1 .simulate .ensures))
 
 returns-2 : tie.Need-returns-2
-returns-2 c = in-map (fileOf (now (c .before .before .before .before .before .before .before .args .map))) (c .before .before .before .before .before .before .before .args .play) _ _ (so (c .before .before .a .given .1) (c .before .before .before .before .simulate .ensures)) (c .score-on .ensures)
+returns-2 c =
+    let at1 = c .before .before in
+    let at2 = at1 .before .before in
+    let at3 = at2 .before .before .before in
+    in-map (fileOf (now (at3 .args .map))) (at3 .args .play) _ _ (so (at1 .a .given .1) (at2 .simulate .ensures)) (c .score-on .ensures)
 
 pub score-in-spec : {M : Type 1} → statement M
 score-in-spec =

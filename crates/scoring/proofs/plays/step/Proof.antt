@@ -28,7 +28,10 @@ returns : tie.Need-returns
 returns c = simp (so (c .before .before .before .read-record .ensures) (c .before .number .given .1))
 
 returns-2 : tie.Need-returns-2
-returns-2 c = simp (so (c .before .before .before .before .before .before .read-record .ensures) (c .before .before .before .before .item .given .1), c .behind .ensures, c .before .score-record .ensures)
+returns-2 c =
+    let at1 = c .before .before .before .before in
+    let at2 = at1 .before .before in
+    simp (so (at2 .read-record .ensures) (at1 .item .given .1), c .behind .ensures, c .before .score-record .ensures)
 
 pub step-spec : {M : Type 1} → statement M
 step-spec =

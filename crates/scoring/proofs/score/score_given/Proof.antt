@@ -26,11 +26,21 @@ enum-known-score c = search needs
 
 returns-2 : tie.Need-returns-2
 unfolding givenScore _>>_ refuse_when_
-returns-2 c = simp (so (c .before .before .before .before .before .has-bad-mods .ensures) (c .before .before .before .before .if1 .left)) (given-refused (playScore (c .before .before .before .before .before .before .before .args .play) (c .before .before .before .before .before .before .before .args .a)) _ (so (c .before .number .given .1) (c .before .before .before .score-on .ensures)))
+returns-2 c =
+    let at1 = c .before .before .before in
+    let at2 = at1 .before in
+    let at3 = at2 .before in
+    let at4 = at3 .before .before in
+    simp (so (at3 .has-bad-mods .ensures) (at2 .if1 .left)) (given-refused (playScore (at4 .args .play) (at4 .args .a)) _ (so (c .before .number .given .1) (at1 .score-on .ensures)))
 
 returns-3 : tie.Need-returns-3
 unfolding givenScore _>>_ refuse_when_
-returns-3 c = simp (so (c .before .before .before .before .before .has-bad-mods .ensures) (c .before .before .before .before .if1 .left)) (given-score (playScore (c .before .before .before .before .before .before .before .args .play) (c .before .before .before .before .before .before .before .args .a)) _ (so (c .before .score .given .1) (c .before .before .before .score-on .ensures)))
+returns-3 c =
+    let at1 = c .before .before .before in
+    let at2 = at1 .before in
+    let at3 = at2 .before in
+    let at4 = at3 .before .before in
+    simp (so (at3 .has-bad-mods .ensures) (at2 .if1 .left)) (given-score (playScore (at4 .args .play) (at4 .args .a)) _ (so (c .before .score .given .1) (at1 .score-on .ensures)))
 
 pub score-given-spec : {M : Type 1} → statement M
 score-given-spec =

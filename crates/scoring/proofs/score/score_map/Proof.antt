@@ -27,13 +27,26 @@ enum-known-a : tie.Need-enum-known-a
 enum-known-a c = search needs
 
 returns : tie.Need-returns
-returns c = map-refused 0 (scoresOf (fileOf (now (c .before .before .before .before .before .args .s)))) _ _ (so (c .before .number .given .1) (c .before .before .before .check-plays .ensures))
+returns c =
+    let at1 = c .before .before .before in
+    let at2 = at1 .before .before in
+    map-refused 0 (scoresOf (fileOf (now (at2 .args .s)))) _ _ (so (c .before .number .given .1) (at1 .check-plays .ensures))
 
 returns-2 : tie.Need-returns-2
-returns-2 c = not-refused 0 (fileOf (now (c .before .before .before .before .before .before .before .before .before .args .s))) _ _ (so (c .before .before .before .before .before .objects .given .1) (c .before .before .before .before .before .before .before .check-plays .ensures)) _ _ _ (so (c .before .number2 .given .1) (c .before .before .before .simulate .ensures))
+returns-2 c =
+    let at1 = c .before .before .before in
+    let at2 = at1 .before .before in
+    let at3 = at2 .before .before in
+    let at4 = at3 .before .before in
+    not-refused 0 (fileOf (now (at4 .args .s))) _ _ (so (at2 .objects .given .1) (at3 .check-plays .ensures)) _ _ _ (so (c .before .number2 .given .1) (at1 .simulate .ensures))
 
 returns-3 : tie.Need-returns-3
-returns-3 c = map-scored 0 (fileOf (now (c .before .before .before .before .before .before .before .before .before .args .s))) _ _ (so (c .before .before .before .before .before .objects .given .1) (c .before .before .before .before .before .before .before .check-plays .ensures)) _ (so (c .before .a .given .1) (c .before .before .before .simulate .ensures))
+returns-3 c =
+    let at1 = c .before .before .before in
+    let at2 = at1 .before .before in
+    let at3 = at2 .before .before in
+    let at4 = at3 .before .before in
+    map-scored 0 (fileOf (now (at4 .args .s))) _ _ (so (at2 .objects .given .1) (at3 .check-plays .ensures)) _ (so (c .before .a .given .1) (at1 .simulate .ensures))
 
 pub score-map-spec : {M : Type 1} → statement M
 score-map-spec =

@@ -33,13 +33,27 @@ score-given-requires : tie.Need-score-given-requires
 score-given-requires c κs = search needs
 
 returns : tie.Need-returns
-returns c = play-refused 0 (scoresOf (fileOf (now (c .before .before .before .before .before .args .s)))) _ _ (c .before .before .before .before .before .args .play) (so (c .before .number .given .1) (c .before .before .before .check-plays .ensures))
+returns c =
+    let at1 = c .before .before .before in
+    let at2 = at1 .before .before in
+    play-refused 0 (scoresOf (fileOf (now (at2 .args .s)))) _ _ (at2 .args .play) (so (c .before .number .given .1) (at1 .check-plays .ensures))
 
 returns-2 : tie.Need-returns-2
-returns-2 c = not-refused 0 (fileOf (now (c .before .before .before .before .before .before .before .before .before .args .s))) _ _ (so (c .before .before .before .before .before .enum-told .given .1) (c .before .before .before .before .before .before .before .check-plays .ensures)) _ _ _ (so (c .before .number2 .given .1) (c .before .before .before .simulate .ensures))
+returns-2 c =
+    let at1 = c .before .before .before in
+    let at2 = at1 .before .before in
+    let at3 = at2 .before .before in
+    let at4 = at3 .before .before in
+    not-refused 0 (fileOf (now (at4 .args .s))) _ _ (so (at2 .enum-told .given .1) (at3 .check-plays .ensures)) _ _ _ (so (c .before .number2 .given .1) (at1 .simulate .ensures))
 
 returns-3 : tie.Need-returns-3
-returns-3 c = play-scored 0 (fileOf (now (c .before .before .before .before .before .before .before .before .before .before .args .s))) _ _ (so (c .before .before .before .before .before .before .enum-told .given .1) (c .before .before .before .before .before .before .before .before .check-plays .ensures)) (c .before .before .before .before .before .before .before .before .before .before .args .play) _ _ (so (c .before .before .a .given .1) (c .before .before .before .before .simulate .ensures)) (c .score-given .ensures)
+returns-3 c =
+    let at1 = c .before .before in
+    let at2 = at1 .before .before in
+    let at3 = at2 .before .before in
+    let at4 = at3 .before .before in
+    let at5 = at4 .before .before in
+    play-scored 0 (fileOf (now (at5 .args .s))) _ _ (so (at3 .enum-told .given .1) (at4 .check-plays .ensures)) (at5 .args .play) _ _ (so (at1 .a .given .1) (at2 .simulate .ensures)) (c .score-given .ensures)
 
 pub score-play-spec : {M : Type 1} → statement M
 score-play-spec =

@@ -1,6 +1,7 @@
 //! Makes map files out of a seed. File `index` of a seed does not depend on the others.
 
 pub mod damage;
+pub mod mixed;
 pub mod objects;
 pub mod plays;
 pub mod random;

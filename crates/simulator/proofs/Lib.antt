@@ -10,3 +10,5 @@ pub mod Sums
 pub mod Points
 pub mod Passed
 pub mod Summing
+pub mod Tallies
+pub mod Running

@@ -58,7 +58,7 @@ counted-one : (c : NestedScorePerObject) (os : List Object) (o : Object) → cou
 unfolding countedAll
 counted-one c os o = counted-append c os (o ∷ [])
 
-sums-same : {a b : State} {c d : NestedScorePerObject} {x y u v : Float} → a ≡ b → c ≡ d → x ≡ y → u ≡ v
+pub sums-same : {a b : State} {c d : NestedScorePerObject} {x y u v : Float} → a ≡ b → c ≡ d → x ≡ y → u ≡ v
     → _≡_ {A = Sums} (record { score = a; nested = c; «first_start» = x; «last_start» = u }) (record { score = b; nested = d; «first_start» = y; «last_start» = v })
 sums-same e f g h = cc
 

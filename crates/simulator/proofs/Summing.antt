@@ -42,10 +42,10 @@ use Rattle.simulator.proofs.Sums.{items-count}
 use Rattle.simulator.proofs.Passed.{sums-more}
 
 -- ---- the objects of a file have at most 1,000 nested items
-abbrev Few : Object → Type 0
+abbrev pub Few : Object → Type 0
 Few o = nestedCount (kindView (o .kind)) ≤ 1000
 
-abbrev FewIn : Content → Type 0
+abbrev pub FewIn : Content → Type 0
 FewIn (header s) = Unit
 FewIn (break b) = Unit
 FewIn (object o) = Few o
@@ -63,7 +63,7 @@ kind-few circle h = omega arith
 kind-few (slider is) h = let e = items-count is in omega (arith, e, h)
 kind-few (spinner d) h = omega arith
 
-object-few : (r : List ℕ) (m : ℕ) → All (λ f. FewIn (f .0)) (objectOf r m)
+pub object-few : (r : List ℕ) (m : ℕ) → All (λ f. FewIn (f .0)) (objectOf r m)
 object-few r m = all-map (objectOf r m) (object-within r m) few
   where
     few : (f : Content × ℕ) → ContentWithin (f .0) → FewIn (f .0)

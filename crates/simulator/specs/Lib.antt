@@ -5,3 +5,4 @@ pub mod Attributes
 pub mod Limits
 pub mod View
 pub mod Sums
+pub mod Runs

@@ -9,11 +9,14 @@ use Rattle.simulator.specs.declared.legacy_score.NestedScorePerObject.{N
 
 -- 100 for each full turn, which is two half spins, and 1000 for each bonus turn. For the average case half as many bonus turns as there are
 -- full turns are taken off, down to none: a difference of numbers is 0 where it would be below.
-unfoldable pub spinnerScoreOf : Float → ℕ
-spinnerScoreOf d =
-    let full = totalHalfSpins d / 2 in
-    let bonus = (totalHalfSpins d - (requiredHalfSpins d + 3)) / 2 in
+abbrev pub spinsScore : ℕ → ℕ → ℕ
+spinsScore total required =
+    let full = total / 2 in
+    let bonus = (total - (required + 3)) / 2 in
     100 * full + 1000 * (bonus - full / 2)
+
+unfoldable pub spinnerScoreOf : Float → ℕ
+spinnerScoreOf d = spinsScore (totalHalfSpins d) (requiredHalfSpins d)
 
 abbrev pub noObject : NestedScorePerObject
 noObject = record {

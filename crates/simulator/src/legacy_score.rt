@@ -3,11 +3,12 @@ use records::hit_object::HitObject;
 use records::hit_object::HitObjectKind;
 use records::hit_object::Slider;
 use records::hit_object::Spinner;
+use spinner::HalfSpins;
 use spinner::half_spins;
 use std::num::nearest_u64_to_f64;
 ghost use mathlib.Core.Path.{_≡_};
-ghost use Prim.Native.Nat.{_-_, _≤_};
-ghost use Rattle.simulator.specs.Nested.{spinnerScoreOf, nestedScoreOf, counted, noObject};
+ghost use Prim.Native.Nat.{_-_, _≤_, _<_, _^_};
+ghost use Rattle.simulator.specs.Nested.{spinsScore, spinnerScoreOf, nestedScoreOf, counted, noObject};
 ghost use Rattle.simulator.specs.Limits.{Counted, nestedCount};
 ghost use Rattle.simulator.specs.View.{kindOf};
 
@@ -22,13 +23,19 @@ fn monus(a: u64, b: u64) -> u64
 }
 
 // A spinner's full turns, and its bonus turns less half of the full ones.
-pub fn calculate_spinner_score(spinner: Spinner) -> u64
-    ensures { λ r. ⌜ r ≡ spinnerScoreOf (spinner .duration) ⌝ }
+pub fn score_of_spins(h: HalfSpins) -> u64
+    requires { ⌜ (h .total < 2 ^ 31) × (h .required < 2 ^ 31) ⌝ }
+    ensures { λ r. ⌜ r ≡ spinsScore (h .total) (h .required) ⌝ }
 {
-    let h = half_spins(spinner.duration);
     let full_spins = h.total / 2;
     let bonus_spins = monus(monus(h.total, h.required + 3) / 2, full_spins / 2);
     SPIN_SCORE * full_spins + BONUS_SPIN_SCORE * bonus_spins
+}
+
+pub fn calculate_spinner_score(spinner: Spinner) -> u64
+    ensures { λ r. ⌜ r ≡ spinnerScoreOf (spinner .duration) ⌝ }
+{
+    score_of_spins(half_spins(spinner.duration))
 }
 
 // The objects by kind, and what the nested score sums over them.

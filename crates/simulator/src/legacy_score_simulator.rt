@@ -31,7 +31,7 @@ pub struct LegacyScoreAttributes {
 }
 
 // The combo points of a 300 at multiplier 1: 300 / 25 for each combo before it but the first, and none at combo 0.
-fn combo_points(combo: u64) -> u64
+pub fn combo_points(combo: u64) -> u64
     requires { ⌜ combo ≤ 8200192 ⌝ }
     ensures { λ r. ⌜ r ≡ 12 * (combo - 1) ⌝ }
 {

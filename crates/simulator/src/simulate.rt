@@ -3,6 +3,7 @@ use crate::attributes::ScoreAttributes;
 use crate::attributes::score_attributes;
 use crate::legacy_score::NestedScorePerObject;
 use crate::legacy_score_simulator::OsuLegacyScoreSimulator;
+use crate::tally::pass_objects;
 use records::file::Reader;
 use records::file::Step;
 use records::file::read_record;
@@ -112,8 +113,10 @@ pub fn simulate(s: &[u8], passed: u64) -> Simulated
     while reader.at < s.len() {
         match read_record(s, reader) {
             Step::Next(item, next) => {
-                sums = sums.with_record(item, reader.counts.objects, passed);
-                reader = next;
+                let added = sums.with_record(item, reader.counts.objects, passed);
+                let run = pass_objects(s, next, added, passed);
+                reader = run.reader;
+                sums = run.sums;
             }
             Step::Refused { number, offset } => {
                 return Simulated::Refused { number, offset };

@@ -3,6 +3,7 @@ ghost use mathlib.Core.Path.{_≡_};
 ghost use Prim.Native.Nat.{_+_, _-_, _<_, _≤_, _^_};
 ghost use Rattle.spinner.specs.HalfSpins.{totalHalfSpins, requiredHalfSpins};
 ghost use Rattle.spinner.specs.Bonus.{largeCount, smallCount, legacyOf, standardisedOf};
+ghost use Rattle.spinner.specs.Spinning.{SpunBy};
 
 // T and R: the half spins that the duration allows, and those that completing the spinner takes.
 pub struct HalfSpins {
@@ -65,13 +66,29 @@ pub struct BonusScores {
     pub standardised: StandardisedBonusScore,
 }
 
-pub fn bonus(duration: f64) -> BonusScores
-    ensures { λ r. ⌜ (r .legacy .0 ≡ legacyOf duration) × (r .standardised .0 ≡ standardisedOf duration) ⌝ }
+// What a spinner gives, with the half spins that it comes of.
+pub struct Spun {
+    pub half_spins: HalfSpins,
+    pub bonus: BonusScores,
+}
+
+pub fn spin(duration: f64) -> Spun
+    ensures { λ r. ⌜ SpunBy duration r ⌝ }
 {
     let h = half_spins(duration);
     let c = count_spins(h.total, h.required + 3);
-    BonusScores {
-        legacy: LegacyBonusScore(c.large * 1100 + c.small * 100),
-        standardised: StandardisedBonusScore(c.large * 50 + c.small * 10),
+    Spun {
+        half_spins: h,
+        bonus: BonusScores {
+            legacy: LegacyBonusScore(c.large * 1100 + c.small * 100),
+            standardised: StandardisedBonusScore(c.large * 50 + c.small * 10),
+        },
     }
+}
+
+pub fn bonus(duration: f64) -> BonusScores
+    ensures { λ r. ⌜ (r .legacy .0 ≡ legacyOf duration) × (r .standardised .0 ≡ standardisedOf duration) ⌝ }
+{
+    let spun = spin(duration);
+    spun.bonus
 }

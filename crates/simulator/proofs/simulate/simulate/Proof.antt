@@ -1,4 +1,4 @@
--- The loop keeps the sums of the objects read so far; at the end they give the attributes of the map.
+-- The loop keeps the sums of the objects read so far, over a run of objects too; at the end they give the attributes of the map.
 use mathlib.Core.Path.{ap, _∙_}
 use Prim.Native.Nat.{_-_}
 use native.Mathlib.Omega.{arith}
@@ -10,6 +10,7 @@ use Rattle.ruleset.specs.Stars.{multiplierOf}
 use Rattle.ruleset.proofs.Signs.{kept}
 use Rattle.simulator.specs.declared.simulate.Simulated.the-variants.{Map}
 use Rattle.simulator.proofs.Summing.{Summing, summing-start, summing-room, summing-step, summing-ahead, summing-stop, end-none, end-settings, end-breaks, end-within, end-counted, end-map}
+use Rattle.simulator.proofs.Running.{summing-steps, ready-score, ready-nested, ready-room}
 use Rattle.simulator.proofs.simulate.simulate.Statement.{statement}
 use Rattle.simulator.proofs.simulate.simulate.Tie as tie
 
@@ -45,23 +46,38 @@ with-record-requires c κs =
     let at4 = at3 .before .before in
     summing-room (at4 .loop .inv) (at3 .if1 .taken) _ _ (so (at1 .item .given .1) (at2 .read-record .ensures))
 
+pass-objects-requires : tie.Need-pass-objects-requires Inv-loop μ-loop
+pass-objects-requires c κs =
+    let at1 = c in
+    let at2 = at1 .before .before in
+    let at3 = at2 .before .before in
+    let at4 = at3 .before in
+    let loop = at4 .before .before .loop in
+    let added = summing-step (loop .inv) (at4 .if1 .taken) _ _ (so (at2 .item .given .1) (at3 .read-record .ensures)) _ (at1 .with-record .ensures) in
+    (ready-score added, ready-nested added, ready-room added)
+
 loop-less : tie.Need-loop-less Inv-loop μ-loop
 loop-less c =
-    let at1 = c .before .before in
+    let at1 = c .before .before .before in
     let at2 = at1 .before .before in
-    let at3 = at2 .before in
-    let at4 = at3 .before .before in
-    let a = summing-ahead (at4 .loop .inv) (at3 .if1 .taken) _ _ (so (at1 .item .given .1) (at2 .read-record .ensures)) in
-    let h = at3 .if1 .taken in
-    omega (arith, a, h)
+    let at3 = at2 .before .before in
+    let at4 = at3 .before in
+    let loop = at4 .before .before .loop in
+    let added = summing-step (loop .inv) (at4 .if1 .taken) _ _ (so (at2 .item .given .1) (at3 .read-record .ensures)) _ (at1 .with-record .ensures) in
+    let a = summing-ahead (loop .inv) (at4 .if1 .taken) _ _ (so (at2 .item .given .1) (at3 .read-record .ensures)) in
+    let k = summing-steps added (c .before .before .pass-objects .ensures) .1 in
+    let h = at4 .if1 .taken in
+    omega (arith, a, k, h)
 
 loop-again : tie.Need-loop-again Inv-loop μ-loop
 loop-again c =
-    let at1 = c .before .before in
+    let at1 = c .before .before .before in
     let at2 = at1 .before .before in
-    let at3 = at2 .before in
-    let at4 = at3 .before .before in
-    summing-step (at4 .loop .inv) (at3 .if1 .taken) _ _ (so (at1 .item .given .1) (at2 .read-record .ensures)) _ (c .with-record .ensures)
+    let at3 = at2 .before .before in
+    let at4 = at3 .before in
+    let loop = at4 .before .before .loop in
+    let added = summing-step (loop .inv) (at4 .if1 .taken) _ _ (so (at2 .item .given .1) (at3 .read-record .ensures)) _ (at1 .with-record .ensures) in
+    summing-steps added (c .before .before .pass-objects .ensures) .0
 
 enum-known-number : tie.Need-enum-known-number Inv-loop μ-loop
 enum-known-number c = search needs
@@ -111,6 +127,7 @@ simulate-spec =
     read-record-requires
     enum-known-item
     with-record-requires
+    pass-objects-requires
     loop-less
     loop-again
     enum-known-number

@@ -5,8 +5,8 @@ use borrow.Author.Needs.{needs}
 use Rattle.spinner.specs.HalfSpins.{totalHalfSpins, requiredHalfSpins}
 use Rattle.spinner.specs.Bonus.{largeCount, smallCount, legacyOf, standardisedOf}
 use Rattle.spinner.proofs.Walks.{points-is}
-use Rattle.spinner.proofs.bonus.Statement.{statement}
-use Rattle.spinner.proofs.bonus.Tie as tie
+use Rattle.spinner.proofs.spin.Statement.{statement}
+use Rattle.spinner.proofs.spin.Tie as tie
 
 half-spins-requires : tie.Need-half-spins-requires
 half-spins-requires c κs = search needs
@@ -51,10 +51,17 @@ returns c =
     let small : n .small ≡ smallCount b t =
     counted .count-spins .ensures .1 ∙ ap (λ (x : ℕ). smallCount (x + 3) (spun .half-spins .result .total)) (h .1) ∙ ap (λ (x : ℕ). smallCount b x) (h .0)
     in
-    (points-is 1100 100 b t (n .large) (n .small) large small, points-is 50 10 b t (n .large) (n .small) large small)
+    record {
+      total = h .0;
+      required = h .1;
+      total-lt = h .2;
+      required-lt = h .3;
+      legacy = points-is 1100 100 b t (n .large) (n .small) large small;
+      standardised = points-is 50 10 b t (n .large) (n .small) large small;
+    }
 
-pub bonus-spec : {M : Type 1} → statement M
-bonus-spec =
+pub spin-spec : {M : Type 1} → statement M
+spin-spec =
     tie.close
     (tie.spec
     half-spins-requires

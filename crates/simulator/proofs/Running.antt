@@ -5,18 +5,24 @@ use mathlib.Core.Bool.{Bool, true, false}
 use mathlib.Core.List.{List}
 use Prim.Native.Nat.{ℕ, _+_, _≤_, _<_, min}
 use native.Mathlib.Omega.{arith}
-use borrow.Author.Tests.{eqb-true, ltb-true, leb-true}
+use borrow.Author.Tests.{eqb-true, ltb-true, leb-true, le-ltb, ne-eqb}
 use lib.Dec.{eqb, ltb, leb}
-use lib.ListN.{length}
+use lib.ListN.{length, drop}
 use Rattle.records.specs.Objects.{objectView, kindView}
-use Rattle.records.specs.Refusals.{pick}
+use Rattle.records.specs.Refusals.{good, refused, pick}
+use Rattle.records.specs.Records.{Found, contentView}
+use Rattle.records.specs.Order.{recordOf}
+use Rattle.records.specs.View.{countedIn, stepOf, behind as behind·of}
+use Rattle.records.specs.declared.hit_object.HitObject.{HitObject}
+use Rattle.records.specs.declared.record.Record.{Record}
+use Rattle.records.specs.declared.file.Step.the-variants as step
 use Rattle.records.specs.declared.file.Counts.{Counts}
 use Rattle.records.specs.declared.file.Reader.{Reader}
 use Rattle.records.specs.declared.record.Record.the-variants as record·case
 use Rattle.records.proofs.Reading.{seen}
 use Rattle.simulator.specs.Limits.{Within, Counted}
-use Rattle.simulator.specs.Sums.{sumsOf, withRecord}
-use Rattle.simulator.specs.Runs.{Steps, none, more, tallyFrom, Small, TakesNext, readerIn, sumsIn, Began, mayRun}
+use Rattle.simulator.specs.Sums.{sumsOf, withObject}
+use Rattle.simulator.specs.Runs.{Steps, none, more, Ready, tallyFrom, Small, TakesNext, readerIn, sumsIn, Began, mayRun}
 use Rattle.simulator.specs.declared.simulate.Sums.{Sums}
 use Rattle.simulator.specs.declared.tally.Tally.{Tally}
 use Rattle.simulator.specs.declared.tally.Run.{Run}
@@ -81,7 +87,7 @@ module _ (s : List ℕ) (p : ℕ) (reader : Reader) (sums : Sums) where
       let o = n .1 .o in
       let kd = kindView (o .kind) in
       let next = took-next s reader t u (n .0) (omega (arith, h)) (n .1) in
-      let sums-are : sumsIn reader sums u ≡ withRecord p (t .objects) (sumsIn reader sums t) (record·case.Object (objectView o)) =
+      let sums-are : sumsIn reader sums u ≡ withObject p (t .objects) (sumsIn reader sums t) (objectView o) =
       ap (sumsIn reader sums) (n .1 .same) ∙ sums-go reader sums t (o .start) (n .1 .size) p (k .began) (k .some) (omega (arith, h)) kd
       in
       record {
@@ -98,22 +104,47 @@ module _ (s : List ℕ) (p : ℕ) (reader : Reader) (sums : Sums) where
 -- ---- the steps of a run keep what the loop over all records keeps
 pub summing-steps : {s : List ℕ} {p : ℕ} {reader r : Reader} {sums x : Sums} → Summing s p reader sums → Steps s p reader sums r x → Summing s p r x × (reader .at ≤ r .at)
 summing-steps k none = (k, omega arith)
-summing-steps k (more {r = r} {next = next} {item = item} steps h e) =
+summing-steps k (more {r = r} {next = next} {o = o} steps h e) =
     let before = summing-steps k steps in
-    let ahead = summing-ahead (before .0) h item next e in
-    (summing-step (before .0) h item next e _ refl, omega (arith, before .1, ahead))
+    let ahead = summing-ahead (before .0) h (record·case.Object o) next e in
+    (summing-step (before .0) h (record·case.Object o) next e _ refl, omega (arith, before .1, ahead))
 
 module _ {s : List ℕ} {p : ℕ} {reader : Reader} {sums : Sums} (k : Summing s p reader sums) where
   same-count : reader .counts .objects ≡ length (k .file .map .objects)
   same-count = seen (k .file) (k .kept .viewed) .objects
 
-  pub ready-score : Within (reader .counts .objects) (sums .score)
+  ready-score : Within (reader .counts .objects) (sums .score)
   unfolding sumsOf
   ready-score = subst (λ (n : ℕ). Within n (sums .score)) (sym same-count) (subst (λ (x : Sums). Within (length (k .file .map .objects)) (x .score)) (sym (k .same)) (passed-within p (length (k .file .map .objects)) (k .file .map .objects) (omega arith) (k .count) (k .few)))
 
-  pub ready-nested : Counted (reader .counts .objects) (sums .nested)
+  ready-nested : Counted (reader .counts .objects) (sums .nested)
   unfolding sumsOf
   ready-nested = subst (λ (n : ℕ). Counted n (sums .nested)) (sym same-count) (subst (λ (x : Sums). Counted (length (k .file .map .objects)) (x .nested)) (sym (k .same)) (passed-counted p (length (k .file .map .objects)) (k .file .map .objects) (omega arith) (k .count) (k .few)))
 
-  pub ready-room : reader .counts .objects ≤ 8192
+  ready-room : reader .counts .objects ≤ 8192
   ready-room = omega (arith, same-count, k .count)
+
+  pub summing-ready : Ready reader sums
+  summing-ready = (ready-score, ready-nested, ready-room)
+
+-- ---- objects that are not passed leave the sums as they are
+next-count : (r : Reader) (x : Found) (o : HitObject) (next : Reader) → step.Next (record·case.Object o) next ≡ stepOf r x → next .counts .objects ≡ r .counts .objects + 1
+unfolding countedIn
+next-count r (refused n) o next e = let z : _≡_ {A = ℕ} 0 1 = cc in absurd (omega arith)
+next-count r (good f) o next e =
+    let i : record·case.Object o ≡ contentView (f .0) = cc in
+    let n : next ≡ behind·of r f = cc in
+    ap (λ (y : Reader). y .counts .objects) n ∙ ap (λ (item : Record). countedIn (r .counts) item .objects) (sym i)
+
+not-passed : (p n : ℕ) (x : Sums) (o : HitObject) → p ≤ n → 0 < n → x ≡ withObject p n x o
+unfolding withObject
+not-passed p n x o h k = simp (le-ltb n p h, ne-eqb n 0 (λ z. omega (arith, z, k)))
+
+module _ {s : List ℕ} {p q : ℕ} {reader : Reader} {x : Sums} (y : Sums) (h : p ≤ reader .counts .objects) (k : 0 < reader .counts .objects) where
+  pub skipped : {r : Reader} {z : Sums} → Steps s q reader x r z → Steps s p reader y r y × (reader .counts .objects ≤ r .counts .objects)
+  skipped none = (none, omega arith)
+  skipped (more {r = r} {next = next} {o = o} steps b e) =
+      let before = skipped steps in
+      let count = next-count r (recordOf (drop (r .at) s) (r .counts)) o next e in
+      let same = not-passed p (r .counts .objects) y o (omega (arith, before .1, h)) (omega (arith, before .1, k)) in
+      (subst (Steps s p reader y next) (sym same) (more (before .0) b e), omega (arith, before .1, count))

@@ -18,24 +18,31 @@ use Rattle.records.specs.declared.file.Reader.{Reader}
 use Rattle.records.specs.declared.file.Step.the-variants as step
 use Rattle.records.specs.declared.hit_object.HitObjectKind.{HitObjectKind}
 use Rattle.records.specs.declared.hit_object.HitObjectKind.the-variants as kind
-use Rattle.records.specs.declared.record.Record.{Record}
+use Rattle.records.specs.declared.hit_object.HitObject.{HitObject}
+use Rattle.records.specs.declared.record.Record.the-variants as record·case
 use Rattle.simulator.specs.Walk.{State}
 use Rattle.simulator.specs.Nested.{spinnerScoreOf}
-use Rattle.simulator.specs.Sums.{withRecord}
+use Rattle.simulator.specs.Limits.{Within, Counted}
+use Rattle.simulator.specs.Sums.{withObject}
 use Rattle.simulator.specs.declared.legacy_score.NestedScorePerObject.{NestedScorePerObject}
 use Rattle.simulator.specs.declared.simulate.Sums.{Sums}
 use Rattle.simulator.specs.declared.tally.Tally.{Tally}
 use Rattle.simulator.specs.declared.tally.Tallied.{Tallied}
 use Rattle.simulator.specs.declared.tally.Tallied.the-variants as tallied
 
--- ---- from a reader and its sums some steps of the loop over all records lead to another
+-- ---- from a reader and its sums the loop over all records comes to another by objects alone
 pub data Steps (s : List ℕ) (p : ℕ) (reader : Reader) (sums : Sums) : Reader → Sums → Type 0 where
   none : Steps s p reader sums reader sums
-  more : {r next : Reader} {x : Sums} {item : Record}
+  more : {r next : Reader} {x : Sums} {o : HitObject}
       → Steps s p reader sums r x
       → r .at < length s
-      → step.Next item next ≡ stepOf r (recordOf (drop (r .at) s) (r .counts))
-      → Steps s p reader sums next (withRecord p (r .counts .objects) x item)
+      → step.Next (record·case.Object o) next ≡ stepOf r (recordOf (drop (r .at) s) (r .counts))
+      → Steps s p reader sums next (withObject p (r .counts .objects) x o)
+
+-- there is room in the sums for the objects that are left
+abbrev pub Ready : Reader → Sums → Type 0
+Ready reader sums =
+    Within (reader .counts .objects) (sums .score) × Counted (reader .counts .objects) (sums .nested) × (reader .counts .objects ≤ 8192)
 
 -- ---- the counters of a run
 abbrev pub tallyFrom : Reader → Sums → Tally

@@ -4,6 +4,7 @@ use crate::attributes::score_attributes;
 use crate::legacy_score::NestedScorePerObject;
 use crate::legacy_score_simulator::OsuLegacyScoreSimulator;
 use crate::tally::pass_objects;
+use crate::tally::skip_objects;
 use records::file::Reader;
 use records::file::Step;
 use records::file::read_record;
@@ -114,7 +115,7 @@ pub fn simulate(s: &[u8], passed: u64) -> Simulated
         match read_record(s, reader) {
             Step::Next(item, next) => {
                 let added = sums.with_record(item, reader.counts.objects, passed);
-                let run = pass_objects(s, next, added, passed);
+                let run = skip_objects(s, pass_objects(s, next, added, passed), passed);
                 reader = run.reader;
                 sums = run.sums;
             }

@@ -22,7 +22,7 @@ ghost use Prim.Native.Nat.{_+_, _≤_, _<_, _^_, min};
 ghost use lib.ListN.{length};
 ghost use Rattle.records.specs.Records.{CI, SL, SP};
 ghost use Rattle.simulator.specs.Limits.{Within, Counted};
-ghost use Rattle.simulator.specs.Runs.{tallyFrom, tallyWith, Small, Spins, Takes, TakesNext, scoreIn, nestedIn, readerIn, sumsIn, Began, mayRun, Steps};
+ghost use Rattle.simulator.specs.Runs.{tallyFrom, tallyWith, Small, Spins, Takes, TakesNext, scoreIn, nestedIn, readerIn, sumsIn, Began, mayRun, Steps, Ready};
 
 // Where a run stands: the reader's offset and counts, the map's combo and its points, and what the run's own objects add up to.
 pub struct Tally {
@@ -293,7 +293,7 @@ fn may_run(c: Counts) -> bool
 
 // Reads on over the objects that follow, as far as they are passed and read with no refusal.
 pub fn pass_objects(s: &[u8], reader: Reader, sums: Sums, passed: u64) -> Run
-    requires { ⌜ Within (reader .counts .objects) (sums .score) × Counted (reader .counts .objects) (sums .nested) × (reader .counts .objects ≤ 8192) ⌝ }
+    requires { ⌜ Ready reader sums ⌝ }
     ensures { λ r. ⌜ Steps (now (s .entry)) passed reader sums (r .reader) (r .sums) ⌝ }
 {
     let counts = reader.counts;
@@ -313,4 +313,23 @@ pub fn pass_objects(s: &[u8], reader: Reader, sums: Sums, passed: u64) -> Run
         }
     }
     tally.run(reader, sums)
+}
+
+// Reads on over the objects behind the passed ones, which add nothing to the sums. Those that the same loop counts of them are dropped.
+pub fn skip_objects(s: &[u8], run: Run, passed: u64) -> Run
+    requires { ⌜ Ready (run .reader) (run .sums) ⌝ }
+    ensures { λ r. ⌜ Steps (now (s .entry)) passed (run .reader) (run .sums) (r .reader) (r .sums) ⌝ }
+{
+    let objects = run.reader.counts.objects;
+    if objects < passed {
+        return run;
+    }
+    if objects == 0 {
+        return run;
+    }
+    let sums = run.sums;
+    let behind = run.reader;
+    let rest = pass_objects(s, behind, sums, u64::MAX);
+    let reader = rest.reader;
+    Run { reader, sums }
 }

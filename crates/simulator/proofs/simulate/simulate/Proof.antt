@@ -10,7 +10,7 @@ use Rattle.ruleset.specs.Stars.{multiplierOf}
 use Rattle.ruleset.proofs.Signs.{kept}
 use Rattle.simulator.specs.declared.simulate.Simulated.the-variants.{Map}
 use Rattle.simulator.proofs.Summing.{Summing, summing-start, summing-room, summing-step, summing-ahead, summing-stop, end-none, end-settings, end-breaks, end-within, end-counted, end-map}
-use Rattle.simulator.proofs.Running.{summing-steps, ready-score, ready-nested, ready-room}
+use Rattle.simulator.proofs.Running.{summing-steps, summing-ready}
 use Rattle.simulator.proofs.simulate.simulate.Statement.{statement}
 use Rattle.simulator.proofs.simulate.simulate.Tie as tie
 
@@ -53,31 +53,48 @@ pass-objects-requires c κs =
     let at3 = at2 .before .before in
     let at4 = at3 .before in
     let loop = at4 .before .before .loop in
-    let added = summing-step (loop .inv) (at4 .if1 .taken) _ _ (so (at2 .item .given .1) (at3 .read-record .ensures)) _ (at1 .with-record .ensures) in
-    (ready-score added, ready-nested added, ready-room added)
+    let found = so (at2 .item .given .1) (at3 .read-record .ensures) in
+    let added = summing-step (loop .inv) (at4 .if1 .taken) _ _ found _ (at1 .with-record .ensures) in
+    summing-ready added
+
+skip-objects-requires : tie.Need-skip-objects-requires Inv-loop μ-loop
+skip-objects-requires c κs =
+    let at1 = c .before in
+    let at2 = at1 .before .before in
+    let at3 = at2 .before .before in
+    let at4 = at3 .before in
+    let loop = at4 .before .before .loop in
+    let found = so (at2 .item .given .1) (at3 .read-record .ensures) in
+    let added = summing-step (loop .inv) (at4 .if1 .taken) _ _ found _ (at1 .with-record .ensures) in
+    summing-ready (summing-steps added (c .pass-objects .ensures) .0)
 
 loop-less : tie.Need-loop-less Inv-loop μ-loop
 loop-less c =
-    let at1 = c .before .before .before in
+    let at1 = c .before .before .before .before in
     let at2 = at1 .before .before in
     let at3 = at2 .before .before in
     let at4 = at3 .before in
     let loop = at4 .before .before .loop in
-    let added = summing-step (loop .inv) (at4 .if1 .taken) _ _ (so (at2 .item .given .1) (at3 .read-record .ensures)) _ (at1 .with-record .ensures) in
-    let a = summing-ahead (loop .inv) (at4 .if1 .taken) _ _ (so (at2 .item .given .1) (at3 .read-record .ensures)) in
-    let k = summing-steps added (c .before .before .pass-objects .ensures) .1 in
+    let found = so (at2 .item .given .1) (at3 .read-record .ensures) in
+    let added = summing-step (loop .inv) (at4 .if1 .taken) _ _ found _ (at1 .with-record .ensures) in
+    let run = summing-steps added (c .before .before .before .pass-objects .ensures) in
+    let a = summing-ahead (loop .inv) (at4 .if1 .taken) _ _ found in
+    let k = run .1 in
+    let l = summing-steps (run .0) (c .before .before .skip-objects .ensures) .1 in
     let h = at4 .if1 .taken in
-    omega (arith, a, k, h)
+    omega (arith, a, k, l, h)
 
 loop-again : tie.Need-loop-again Inv-loop μ-loop
 loop-again c =
-    let at1 = c .before .before .before in
+    let at1 = c .before .before .before .before in
     let at2 = at1 .before .before in
     let at3 = at2 .before .before in
     let at4 = at3 .before in
     let loop = at4 .before .before .loop in
-    let added = summing-step (loop .inv) (at4 .if1 .taken) _ _ (so (at2 .item .given .1) (at3 .read-record .ensures)) _ (at1 .with-record .ensures) in
-    summing-steps added (c .before .before .pass-objects .ensures) .0
+    let found = so (at2 .item .given .1) (at3 .read-record .ensures) in
+    let added = summing-step (loop .inv) (at4 .if1 .taken) _ _ found _ (at1 .with-record .ensures) in
+    let run = summing-steps added (c .before .before .before .pass-objects .ensures) in
+    summing-steps (run .0) (c .before .before .skip-objects .ensures) .0
 
 enum-known-number : tie.Need-enum-known-number Inv-loop μ-loop
 enum-known-number c = search needs
@@ -128,6 +145,7 @@ simulate-spec =
     enum-known-item
     with-record-requires
     pass-objects-requires
+    skip-objects-requires
     loop-less
     loop-again
     enum-known-number

@@ -89,3 +89,12 @@ pub sums-none : (p : ℕ) → _≡_ {A = Sums} (record { score = fresh; nested =
 unfolding sumsOf after countedAll
 sums-none zero = refl
 sums-none (suc p) = refl
+
+-- whatever the number of passed objects, once it is that of all
+pub sums-all : (p q : ℕ) (os : List Object) → length os ≤ p → length os ≤ q → sumsOf p os ≡ sumsOf q os
+unfolding sumsOf
+sums-all p q os h k =
+    let a : take p os ≡ os = take-all p os h in
+    let b : take q os ≡ os = take-all q os k in
+    let last : lastPlace (length os) p ≡ lastPlace (length os) q = omega (arith, h, k) in
+    simp (a, b, last)

@@ -21,7 +21,7 @@ use Rattle.records.specs.declared.file.Step.the-variants as step
 use Rattle.records.specs.declared.record.Record.{Record}
 use Rattle.records.proofs.All.{All, that, all-bind, all-any, all-when, all-pick, all-map, all-out}
 use Rattle.encoding.proofs.Accepted.{object-within, accepted-within}
-use Rattle.records.proofs.Reading.{Kept, Moved, Seen, seen, all-read, kept-start, kept-step, kept-stop, length-snoc}
+use Rattle.records.proofs.Reading.{Chain, start, longer, Kept, Moved, Seen, seen, all-read, kept-start, kept-step, kept-stop, length-snoc}
 use Rattle.records.proofs.Room.{record-fits}
 use Rattle.ruleset.specs.Drain.{startOf, lastPlace, drainAt, drainOf, breaksLength, breaksIn}
 use Rattle.ruleset.specs.Stars.{multiplierOf, multiplierAt}
@@ -31,7 +31,7 @@ use Rattle.simulator.specs.Walk.{State, fresh, walk, after}
 use Rattle.simulator.specs.Nested.{noObject, counted, countedAll}
 use Rattle.simulator.specs.Attributes.{scoreAttributesOf, scoreAttributesAt}
 use Rattle.simulator.specs.Limits.{Within, Counted, nestedCount, Room}
-use Rattle.simulator.specs.Sums.{sumsOf, withObject, withRecord, drainIn, simulatedOf}
+use Rattle.simulator.specs.Sums.{sumsOf, withObject, withRecord, drainIn, multiplierIn, attributesIn, simulatedOf}
 use Rattle.simulator.specs.View.{times}
 use Rattle.simulator.specs.declared.legacy_score.NestedScorePerObject.{NestedScorePerObject}
 use Rattle.simulator.specs.declared.simulate.Sums.{Sums}
@@ -144,6 +144,15 @@ pub summing-start : (s : List ℕ) (p : ℕ) → Summing s p freshOf (sumsOf p [
 summing-start s p =
     record { file = file·of.fresh; kept = kept-start s; standing = standing-start s; few = none; count = omega arith; same = refl }
 
+objects-with : (f : File) (x : Content) (n : ℕ) → FewIn x → Fits (countsOf f) (contentView x) → Each Few (f .map .objects) → length (f .map .objects) ≤ 8192
+    → Each Few (with-record f (x, n) .map .objects) × (length (with-record f (x, n) .map .objects) ≤ 8192)
+unfolding with-record countsOf
+objects-with f (header t) n h e few most = (few, most)
+objects-with f (break b) n h e few most = (few, most)
+objects-with f (object o) n h e few most =
+    let more = length-snoc (f .map .objects) o in (each-more (f .map .objects) o few h, omega (arith, more, e .0))
+objects-with f (play q) n h e few most = (few, most)
+
 module _ {s : List ℕ} {p : ℕ} {reader : Reader} {sums : Sums} (k : Summing s p reader sums) where
   abbrev f : File
   f = k .file
@@ -173,9 +182,9 @@ module _ {s : List ℕ} {p : ℕ} {reader : Reader} {sums : Sums} (k : Summing s
   with-it (header t) n h e = (k .few, k .count, k .same)
   with-it (break b) n h e = (k .few, k .count, k .same)
   with-it (object o) n h e =
-      let more = length-snoc (f .map .objects) o in (
-        each-more (f .map .objects) o (k .few) h,
-        omega (arith, more, e .0),
+      let w = objects-with f (object o) n h e (k .few) (k .count) in (
+        w .0,
+        w .1,
         ap (λ (m : ℕ). withObject p m sums (objectView o)) (seen f (k .kept .viewed) .objects)
             ∙ ap (λ (x : Sums). withObject p (length (f .map .objects)) x (objectView o)) (k .same)
             ∙ sym (sums-more p (f .map .objects) o),
@@ -261,21 +270,37 @@ module _ {s : List ℕ} {p : ℕ} {reader : Reader} {sums : Sums} (k : Summing s
     unfolding sumsOf
     objects-is = ap (λ (x : Sums). x .nested .«object_count») (k .same) ∙ count-is noObject (take p (g .map .objects)) ∙ omega arith
 
-    multiplier-is : multiplierOf (reader .settings) (sums .nested .«object_count») (drainIn s (reader .counts .breaks) (reader .counts .objects) sums)
-        ≡ multiplierAt (g .map) p
+    multiplier-is : multiplierIn s reader sums ≡ multiplierAt (g .map) p
     unfolding multiplierAt
     multiplier-is = simp (sees .settings, objects-is, drain-is)
 
     -- the attributes from the sums are those of the map
-    pub end-map : (m : ℕ)
-        → m ≡ multiplierOf (reader .settings) (sums .nested .«object_count») (drainIn s (reader .counts .breaks) (reader .counts .objects) sums)
-        → simulated.Map (scoreAttributesOf (times m (sums .score)) (sums .nested) m) ≡ simulatedOf (fileOf s) p
+    pub end-map : simulated.Map (attributesIn s reader sums) ≡ simulatedOf (fileOf s) p
     unfolding sumsOf scoreAttributesAt
-    end-map m q =
+    end-map =
+        let m = multiplierIn s reader sums in
         let os = take p (g .map .objects) in
-        let is : m ≡ multiplierAt (g .map) p = q ∙ multiplier-is in
         let walked : times m (after 1 fresh os) ≡ after m fresh os = sym (ap (λ (st : State). after m st os) (fresh-times m) ∙ after-times m fresh os) in
         rw file-is
         (ap (λ (x : Sums). simulated.Map (scoreAttributesOf (times m (x .score)) (x .nested) m)) (k .same)
         ∙ ap (λ (st : State). simulated.Map (scoreAttributesOf st (countedAll noObject os) m)) walked
-        ∙ ap (λ (n : ℕ). simulated.Map (scoreAttributesOf (after n fresh os) (countedAll noObject os) n)) is)
+        ∙ ap (λ (n : ℕ). simulated.Map (scoreAttributesOf (after n fresh os) (countedAll noObject os) n)) multiplier-is)
+
+-- ---- any file that was read so far has these sums
+record Facts (s : List ℕ) (f : File) : Type 0 where
+  standing : Standing s f
+  few : Each Few (f .map .objects)
+  count : length (f .map .objects) ≤ 8192
+
+facts : (s : List ℕ) (f : File) → Chain s f → Facts s f
+facts s f start = record { standing = standing-start s; few = none; count = omega arith }
+facts s f (longer {f = g} {r = r} c h e) =
+    let before = facts s g c in
+    let found = all-out (rw e at (record-few (drop (g .at) s) (countsOf g))) in
+    let fits = all-out (rw e at (record-fits (drop (g .at) s) (countsOf g))) in
+    let w = objects-with g (r .0) (r .1) found fits (before .few) (before .count) in
+    record { standing = standing-step s g r e (before .standing); few = w .0; count = w .1 }
+
+pub kept-summing : (s : List ℕ) (p : ℕ) (f : File) (reader : Reader) → Kept s f reader → Summing s p reader (sumsOf p (f .map .objects))
+kept-summing s p f reader k =
+    let w = facts s f (k .chain) in record { file = f; kept = k; standing = w .standing; few = w .few; count = w .count; same = refl }

@@ -1,5 +1,5 @@
 -- What the code keeps of a map's first p objects while it reads a file, and what it answers.
-use Prim.Native.Nat.{ℕ}
+use Prim.Native.Nat.{ℕ, _≤_}
 use mathlib.Core.List.{List}
 use lib.Dec.{ltb, eqb}
 use lib.IntN.{ℤ, pos}
@@ -8,15 +8,20 @@ use lib.Ieee.{Float}
 use Rattle.records.specs.Refusals.{pick}
 use Rattle.records.specs.Objects.{Object}
 use Rattle.records.specs.File.{Result, accepted, refusedAt}
+use Rattle.records.specs.declared.file.Reader.{Reader}
 use Rattle.records.specs.declared.hit_object.HitObject.{HitObject}
 use Rattle.records.specs.declared.record.Record.{Record}
 use Rattle.records.specs.declared.record.Record.the-variants as record·case
+use Rattle.encoding.specs.Limits.{SettingsWithin}
+use Rattle.ruleset.specs.Stars.{multiplierOf}
 use Rattle.ruleset.specs.Drain.{startOf, lastPlace, drainOf, breaksLength, breaksIn}
 use Rattle.simulator.specs.Hits.{hitsOf}
 use Rattle.simulator.specs.Walk.{fresh, walk, after}
 use Rattle.simulator.specs.Nested.{noObject, counted, countedAll}
-use Rattle.simulator.specs.Attributes.{scoreAttributesAt}
-use Rattle.simulator.specs.View.{kindOf}
+use Rattle.simulator.specs.Attributes.{scoreAttributesOf, scoreAttributesAt}
+use Rattle.simulator.specs.Limits.{Within, Counted}
+use Rattle.simulator.specs.View.{kindOf, times}
+use Rattle.simulator.specs.declared.attributes.ScoreAttributes.{ScoreAttributes}
 use Rattle.simulator.specs.declared.simulate.Sums.{Sums}
 use Rattle.simulator.specs.declared.simulate.Simulated.{Simulated}
 use Rattle.simulator.specs.declared.simulate.Simulated.the-variants as simulated
@@ -59,6 +64,19 @@ withRecord p place sums (record·case.Play q) = sums
 unfoldable pub drainIn : List ℕ → ℕ → ℕ → Sums → ℤ
 drainIn s breaks objects sums =
     pick (eqb objects 0) (pos 0) (drainOf (sums .«first_start») (sums .«last_start») (breaksLength (sums .«last_start») (breaksIn s breaks)))
+
+-- what the sums and the reader give at the end of a map, where both are within its limits
+abbrev pub Complete : Reader → Sums → Type 0
+Complete reader sums =
+    SettingsWithin (reader .settings) × (reader .counts .breaks ≤ 128) × Within 8192 (sums .score) × Counted 8192 (sums .nested)
+
+abbrev pub multiplierIn : List ℕ → Reader → Sums → ℕ
+multiplierIn s reader sums =
+    multiplierOf (reader .settings) (sums .nested .«object_count») (drainIn s (reader .counts .breaks) (reader .counts .objects) sums)
+
+abbrev pub attributesIn : List ℕ → Reader → Sums → ScoreAttributes
+attributesIn s reader sums =
+    scoreAttributesOf (times (multiplierIn s reader sums) (sums .score)) (sums .nested) (multiplierIn s reader sums)
 
 -- the score attributes of the first p objects; "A refused call gives the number below and an offset"
 abbrev pub simulatedOf : Result → ℕ → Simulated

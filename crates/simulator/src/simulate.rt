@@ -19,7 +19,7 @@ ghost use Prim.Native.Nat.{_≤_, _<_, _^_};
 ghost use lib.Signed.{mag};
 ghost use Rattle.records.specs.File.{fileOf};
 ghost use Rattle.simulator.specs.Limits.{Within, Counted, nestedCount, Room};
-ghost use Rattle.simulator.specs.Sums.{sumsOf, atFirst, withObject, withRecord, drainIn, simulatedOf};
+ghost use Rattle.simulator.specs.Sums.{sumsOf, atFirst, withObject, withRecord, drainIn, Complete, attributesIn, simulatedOf};
 
 // What the first `passed` objects add up to, with the starts of the map's first object and of the last one that counts.
 pub struct Sums {
@@ -77,7 +77,7 @@ impl Sums {
         }
     }
 
-    fn with_record(self, item: Record, place: u64, passed: u64) -> Self
+    pub fn with_record(self, item: Record, place: u64, passed: u64) -> Self
         requires { ⌜ Room self item ⌝ }
         ensures { λ r. ⌜ r ≡ withRecord passed place self item ⌝ }
     {
@@ -106,6 +106,16 @@ fn drain_in(s: &[u8], breaks: u64, objects: u64, sums: Sums) -> i64
     )
 }
 
+// The attributes of a file's objects: those that the sums are of.
+pub fn attributes_of(s: &[u8], reader: Reader, sums: Sums) -> ScoreAttributes
+    requires { ⌜ Complete reader sums ⌝ }
+    ensures { λ r. ⌜ r ≡ attributesIn (now (s .entry)) reader sums ⌝ }
+{
+    let drain = drain_in(s, reader.counts.breaks, reader.counts.objects, sums);
+    let multiplier = score_multiplier(reader.settings, sums.nested.object_count, drain);
+    score_attributes(sums.score, sums.nested, multiplier)
+}
+
 pub fn simulate(s: &[u8], passed: u64) -> Simulated
     ensures { λ r. ⌜ r ≡ simulatedOf (fileOf (now (s .entry))) passed ⌝ }
 {
@@ -130,7 +140,5 @@ pub fn simulate(s: &[u8], passed: u64) -> Simulated
             offset: 0,
         };
     }
-    let drain = drain_in(s, reader.counts.breaks, reader.counts.objects, sums);
-    let multiplier = score_multiplier(reader.settings, sums.nested.object_count, drain);
-    Simulated::Map(score_attributes(sums.score, sums.nested, multiplier))
+    Simulated::Map(attributes_of(s, reader, sums))
 }

@@ -6,8 +6,6 @@ use denote.Ref.{now}
 use borrow.Author.Needs.{needs}
 use lib.ListN.{length}
 use Rattle.records.proofs.Laws.{so}
-use Rattle.ruleset.specs.Stars.{multiplierOf}
-use Rattle.ruleset.proofs.Signs.{kept}
 use Rattle.simulator.specs.declared.simulate.Simulated.the-variants.{Map}
 use Rattle.simulator.proofs.Summing.{Summing, summing-start, summing-room, summing-step, summing-ahead, summing-stop, end-none, end-settings, end-breaks, end-within, end-counted, end-map}
 use Rattle.simulator.proofs.Running.{summing-steps, summing-ready}
@@ -110,27 +108,18 @@ returns c =
 returns-2 : tie.Need-returns-2 Inv-loop μ-loop
 returns-2 c = end-none (c .before .before .before .before .loop .inv) (c .before .before .if1 .left) (c .if2 .taken)
 
-drain-in-requires : tie.Need-drain-in-requires Inv-loop μ-loop
-drain-in-requires c κs = end-breaks (c .before .before .before .before .loop .inv) (c .before .before .if1 .left) (c .if2 .left)
-
-score-multiplier-requires : tie.Need-score-multiplier-requires Inv-loop μ-loop
-score-multiplier-requires c κs =
-    let e = kept (c .drain-in .result) (omega arith) in
-    let n = end-counted (c .before .before .before .before .before .loop .inv) (c .before .before .before .if1 .left) (c .before .if2 .left) .objects in
-    (end-settings (c .before .before .before .before .before .loop .inv) (c .before .before .before .if1 .left) (c .before .if2 .left), omega (arith, n), rw e (omega arith))
-
-score-attributes-requires : tie.Need-score-attributes-requires Inv-loop μ-loop
-score-attributes-requires c κs =
-    let at1 = c .before .before in
-    let at2 = at1 .before .before in
-    let at3 = at2 .before .before in
-    (end-within (at3 .loop .inv) (at2 .if1 .left) (at1 .if2 .left), end-counted (at3 .loop .inv) (at2 .if1 .left) (at1 .if2 .left), c .score-multiplier .ensures .1)
+attributes-of-requires : tie.Need-attributes-of-requires Inv-loop μ-loop
+attributes-of-requires c κs =
+    let loop = c .before .before .before .before .loop in
+    let h = c .before .before .if1 .left in
+    let e = c .if2 .left in
+    (end-settings (loop .inv) h e, end-breaks (loop .inv) h e, end-within (loop .inv) h e, end-counted (loop .inv) h e)
 
 returns-3 : tie.Need-returns-3 Inv-loop μ-loop
 returns-3 c =
-    let e = kept (c .before .before .drain-in .result) (omega arith) ∙ c .before .before .drain-in .ensures .0 in
-    let m = c .before .score-multiplier .ensures .0 ∙ ap (multiplierOf (c .before .before .before .before .before .before .before .loop .reader .settings) (c .before .before .before .before .before .before .before .loop .sums .nested .«object_count»)) e in
-    ap Map (c .score-attributes .ensures) ∙ end-map (c .before .before .before .before .before .before .before .loop .inv) (c .before .before .before .before .before .if1 .left) (c .before .before .before .if2 .left) _ m
+    let at1 = c .before in
+    let at2 = at1 .before .before in
+    ap Map (c .attributes-of .ensures) ∙ end-map (at2 .before .before .loop .inv) (at2 .if1 .left) (at1 .if2 .left)
 
 pub simulate-spec : {M : Type 1} → statement M
 simulate-spec =
@@ -151,7 +140,5 @@ simulate-spec =
     enum-known-number
     returns
     returns-2
-    drain-in-requires
-    score-multiplier-requires
-    score-attributes-requires
+    attributes-of-requires
     returns-3)

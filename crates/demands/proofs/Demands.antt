@@ -19,34 +19,11 @@ use Rattle.estimates.specs.Effective.{estimatesOf}
 use Rattle.scoring.specs.PlayRules.{exceeds, overCombo, playScore}
 use Rattle.scoring.specs.Scores.{Outcome, refusal, values, at-offset, then, Scores, playScoreOn, playScores, scoresOf}
 use Rattle.scoring.specs.declared.play_score.PlayScore.{PlayScore}
+use Rattle.scoring.proofs.Answers.{no-number}
 use Rattle.demands.proofs.Rules.{IsRule, refusal-rule}
 
 never : {A : Type 0} → _≡_ {A = ℕ} 0 1 → A
 never e = absurd (omega arith)
-
--- ---- a file that gets no number
-record NoNumber (s : List ℕ) (sc : Scores) : Type 0 where
-  file : File
-  read : fileOf s ≡ accepted file
-  map : sc .map ≡ file .map
-  plays : playScores (file .map) (file .plays) ≡ values (sc .plays)
-
-no-number : (s : List ℕ) (sc : Scores) → scoresOf (fileOf s) ≡ values sc → NoNumber s sc
-no-number s sc e = go (fileOf s) refl e
-  where
-    go : (r : Result) → fileOf s ≡ r → scoresOf r ≡ values sc → NoNumber s sc
-    go (accepted f) q e = plays (playScores (f .map) (f .plays)) refl e
-      where
-        plays : (x : Outcome (List PlayScore)) → playScores (f .map) (f .plays) ≡ x → then x (λ ss. values (record { map = f .map; plays = ss })) ≡ values sc → NoNumber s sc
-        plays (refusal n at) p e = never (cc)
-        plays (values ss) p e =
-            let same : record { map = f .map; plays = ss } ≡ sc = cc in
-            record { file = f; read = q; map = sym (ap (λ (x : Scores). x .map) same); plays = p ∙ ap (λ (x : Scores). values (x .plays)) same }
-    go (refusedAt n at f) q e = plays (playScores (f .map) (f .plays)) e
-      where
-        plays : (x : Outcome (List PlayScore)) → then x (λ ss. refusal n at) ≡ values sc → NoNumber s sc
-        plays (refusal k o) e = never (cc)
-        plays (values ss) e = never (cc)
 
 -- ---- Demand 1
 -- "An input that breaks a rule of document 01 gets that rule's number": a refusal's number is that of a rule, 2 to 10 (1 is the program's own).

@@ -17,7 +17,8 @@ use Rattle.scoring.specs.declared.plays.Wanted.{Wanted}
 use Rattle.scoring.specs.declared.plays.Wanted.the-variants as wanted
 use Rattle.scoring.specs.declared.plays.Walk.{Walk}
 use Rattle.scoring.specs.declared.plays.Walked.the-variants as walked
-use Rattle.scoring.proofs.Playing.{Played, played-start, played-none, played-end, After, passes, plays, stops, after}
+use Rattle.scoring.specs.Reached.{RunOn}
+use Rattle.scoring.proofs.Playing.{Played, played-start, played-none, played-end, After, passes, plays, stops, after, ran-on}
 use Rattle.listing.specs.Listing.{playLines, wantedLine, indexAfter, IsGood, playsText}
 
 -- the line of one more play
@@ -46,18 +47,22 @@ one-more t ss s {index = index} e =
     ∙ ap (λ (i : ℕ). t ++ (playLines 0 ss ++ playLine i (s .estimates))) n
     ∙ sym (ap (λ (x : List ℕ). t ++ x) (lines-more 0 ss s))
 
+-- the lines are written with the attributes of all objects at hand
+abbrev pub most : ℕ
+most = 18446744073709551615
+
 pub record Writing (s space₀ : List ℕ) (at₀ : ℕ) (w : Walk) (index : ℕ) (space : List ℕ) (at : ℕ) : Type 0 where
   pub scores : List PlayScore
-  pub played : Played s (w .reader) (w .end) scores
+  pub played : Played s most w scores
   pub wanted : w .wanted ≡ wanted.Ahead 0
   pub count : index ≡ length scores
   pub few : index ≤ w .reader .at
   pub written : (l t : List ℕ) → Written l 0 t space₀ at₀ → Written l 0 (t ++ playLines 0 scores) space at
 
-pub writing-start : (s space : List ℕ) (at : ℕ) → Writing s space at (walkStart 0) 0 space at
+pub writing-start : (s space : List ℕ) (at : ℕ) → Writing s space at (walkStart most 0) 0 space at
 writing-start s space at = record {
   scores = [];
-  played = played-start s;
+  played = played-start s most 0;
   wanted = refl;
   count = refl;
   few = omega arith;
@@ -66,19 +71,36 @@ writing-start s space at = record {
 
 -- the walk behind a record, ready for the next play
 abbrev pub past : Walk → Walk
-past w = record { reader = w .reader; end = w .end; wanted = wanted.Ahead 0 }
+past w = record { reader = w .reader; sums = w .sums; end = w .end; wanted = wanted.Ahead 0 }
+
+played-past : {s : List ℕ} {w : Walk} {scores : List PlayScore} → Played s most w scores → Played s most (past w) scores
+played-past k =
+    let r = k .reached in
+    record {
+      reached = record {
+        file = r .file;
+        kept = r .kept;
+        sums = r .sums;
+        map-file = r .map-file;
+        map-chain = r .map-chain;
+        map-end = r .map-end;
+        map-same = r .map-same;
+        map-begun = r .map-begun;
+      };
+      same = k .same;
+    }
 
 module _ {s space₀ : List ℕ} {at₀ : ℕ} {w : Walk} {index : ℕ} {space : List ℕ} {at : ℕ} (k : Writing s space₀ at₀ w index space at) where
   module _ (h : w .reader .at < length s) where
     -- one more record: its line is written if it is a play
-    module _ (next-walk : Walk) (e : walked.Next next-walk ≡ walkedOf s w) where
-      told : After w (k .played) h (walked.Next next-walk)
-      told = subst (After w (k .played) h) (sym e) (after w (k .played) h)
+    module _ (next-walk : Walk) (e : walked.Next next-walk ≡ walkedOf s most w) where
+      told : After (k .played) h (walked.Next next-walk)
+      told = subst (After (k .played) h) (sym e) (after (k .played) h)
 
       pub writing-ahead : w .reader .at < next-walk .reader .at
       writing-ahead = out told
         where
-          out : After w (k .played) h (walked.Next next-walk) → w .reader .at < next-walk .reader .at
+          out : After (k .played) h (walked.Next next-walk) → w .reader .at < next-walk .reader .at
           out (passes a q p) = a
           out (plays score a q p) = a
 
@@ -86,7 +108,7 @@ module _ {s space₀ : List ℕ} {at₀ : ℕ} {w : Walk} {index : ℕ} {space :
           → Writing s space₀ at₀ (past next-walk) index′ space′ at′
       writing-step space′ at′ index′ puts counts = out told
         where
-          out : After w (k .played) h (walked.Next next-walk) → Writing s space₀ at₀ (past next-walk) index′ space′ at′
+          out : After (k .played) h (walked.Next next-walk) → Writing s space₀ at₀ (past next-walk) index′ space′ at′
           out (passes a q p) =
               let none : next-walk .wanted ≡ wanted.Ahead 0 = q ∙ k .wanted in
               let same : index′ ≡ index = counts ∙ ap (indexAfter index) none in
@@ -94,7 +116,7 @@ module _ {s space₀ : List ℕ} {at₀ : ℕ} {w : Walk} {index : ℕ} {space :
               let puts-none : Puts space at [] space′ at′ = subst (λ (x : Wanted). Puts space at (wantedLine index x) space′ at′) none puts in
               record {
                 scores = k .scores;
-                played = p;
+                played = played-past p;
                 wanted = refl;
                 count = same ∙ k .count;
                 few = omega (arith, same, few, a);
@@ -108,7 +130,7 @@ module _ {s space₀ : List ℕ} {at₀ : ℕ} {w : Walk} {index : ℕ} {space :
               let puts-one : Puts space at (playLine index (score .estimates)) space′ at′ = subst (λ (x : Wanted). Puts space at (wantedLine index x) space′ at′) one puts in
               record {
                 scores = k .scores ++ (score ∷ []);
-                played = p;
+                played = played-past p;
                 wanted = refl;
                 count = more ∙ ap (λ (n : ℕ). n + 1) (k .count) ∙ sym size;
                 few = omega (arith, more, few, a);
@@ -116,11 +138,19 @@ module _ {s space₀ : List ℕ} {at₀ : ℕ} {w : Walk} {index : ℕ} {space :
               }
 
     -- a good file has no record that refuses it
-    pub writing-stop : {A : Type 0} (n o : ℕ) → IsGood (scoresOf (fileOf s)) → walked.Refused n o ≡ walkedOf s w → A
-    writing-stop n o good e = out (subst (After w (k .played) h) (sym e) (after w (k .played) h))
+    pub writing-stop : {A : Type 0} (n o : ℕ) → IsGood (scoresOf (fileOf s)) → walked.Refused n o ≡ walkedOf s most w → A
+    writing-stop n o good e = out (subst (After (k .played) h) (sym e) (after (k .played) h))
       where
-        out : {A : Type 0} → After w (k .played) h (walked.Refused n o) → A
+        out : {A : Type 0} → After (k .played) h (walked.Refused n o) → A
         out (stops q) = absurd (subst IsGood q good)
+
+  -- objects that are read on have no line
+  pub writing-on : (r : Walk) → RunOn s most w r → (w .reader .at ≤ r .reader .at) × Writing s space₀ at₀ r index space at
+  writing-on r run =
+      let on = ran-on (k .played) r run in
+      let few = k .few in
+      let ahead = on .ahead in
+      (ahead, record { scores = k .scores; played = on .played; wanted = on .wanted ∙ k .wanted; count = k .count; few = omega (arith, few, ahead); written = k .written })
 
   -- at the end of the file all plays have their line
   module _ (h : length s ≤ w .reader .at) (good : IsGood (scoresOf (fileOf s))) where

@@ -6,6 +6,7 @@ use records::file::Reader;
 use scoring::plays::Walk;
 use scoring::plays::Walked;
 use scoring::plays::Wanted;
+use scoring::plays::run_on;
 use scoring::plays::step;
 use scoring::score::MapScore;
 use scoring::score::score_map;
@@ -58,10 +59,10 @@ fn put_lines(s: &[u8], space: &mut [u8], a: ScoreAttributes) -> usize
     ensures { λ _. ⌜ now (space .exit) ≡ putAt (now (space .entry)) 0 (mapLine a ++ playsText (scoresOf (fileOf (now (s .entry))))) ⌝ }
 {
     let mut at = put_map_line(space, 0, a);
-    let mut walk = Walk::new(0);
+    let mut walk = Walk::new(u64::MAX, 0);
     let mut index = 0;
     while walk.reader.at < s.len() {
-        match step(s, walk) {
+        match step(s, walk, u64::MAX) {
             Walked::Refused {
                 number: _,
                 offset: _,
@@ -72,10 +73,11 @@ fn put_lines(s: &[u8], space: &mut [u8], a: ScoreAttributes) -> usize
                 let wanted = next.wanted;
                 at = put_wanted(space, at, index, wanted);
                 index = index_after(index, wanted);
-                walk = Walk {
+                let rest = Walk {
                     wanted: Wanted::Ahead(0),
                     ..next
                 };
+                walk = run_on(s, rest, u64::MAX);
             }
         }
     }

@@ -7,8 +7,8 @@ use native.Mathlib.Numerals.{add-one}
 use native.Mathlib.Nat.{add-zero}
 use native.Mathlib.Omega.{arith}
 use lib.Dec.{ltb, eqb}
-use lib.ListN.{length, drop, length-append, length-drop}
-use lib.Seq.{drop-append-le}
+use lib.ListN.{length, take, drop, length-append, length-drop, take-append-drop}
+use lib.Seq.{drop-append-le, length-take-le}
 use borrow.Author.Tests.{lt-ltb, le-ltb, eq-eqb, ne-eqb}
 use Rattle.records.specs.Refusals.{Checked, good, refused, pick}
 use Rattle.records.specs.Objects.{Object, bonus, kindBonus}
@@ -152,6 +152,13 @@ chain-inside s f (longer {f = g} {r = r} c h e) =
     let sized = found-sized s g r e in
     let room = length-drop (g .at) s in
     omega (arith, past, sized .1, room, h)
+
+-- so what was read so far is the file of its own bytes, from the header on
+pub chain-file : (s : List ℕ) (f : File) → Chain s f → 0 < f .last → fileOf (take (f .at) s) ≡ accepted f
+chain-file s f c h =
+    let whole : take (f .at) s ++ drop (f .at) s ≡ s = take-append-drop (f .at) s in
+    let size : f .at ≡ length (take (f .at) s) = sym (length-take-le (f .at) s (chain-inside s f c)) in
+    part-file (take (f .at) s) (drop (f .at) s) f (subst (λ (l : List ℕ). Chain l f) (sym whole) c) size ∙ simp (ne-eqb (f .last) 0 (λ z. (omega (arith, h, z))))
 
 -- the place of a record in the order is that of its content, and no earlier than the last one's
 pub with-last : (f : File) (r : Content × ℕ) → with-record f r .last ≡ placeOf (r .0)

@@ -1,16 +1,18 @@
 -- From what a call answered to what the definition says: one case of an answer stands for one case of the definition.
-use mathlib.Core.Path.{_≡_, refl, sym, ap, _∙_}
+use mathlib.Core.Path.{_≡_, refl, sym, ap, _∙_, subst}
 use mathlib.Core.List.{List, [], _∷_}
-use Prim.Native.Nat.{ℕ, zero, suc}
+use Prim.Native.Nat.{ℕ, zero, suc, _≤_, min}
 use native.Mathlib.Omega.{arith}
 use lib.ListN.{length}
 use Rattle.records.specs.Refusals.{Checked, good, refused}
-use Rattle.records.specs.File.{File, Result, accepted, refusedAt}
+use Rattle.records.specs.File.{Map, File, Result, accepted, refusedAt, fileOf}
 use Rattle.records.specs.declared.play.Play.{Play}
+use Rattle.encoding.proofs.Accepted.{accepted-within}
 use Rattle.simulator.specs.Attributes.{scoreAttributesAt}
 use Rattle.simulator.specs.Sums.{simulatedOf}
 use Rattle.simulator.specs.declared.attributes.ScoreAttributes.{ScoreAttributes}
 use Rattle.simulator.specs.declared.simulate.Simulated.the-variants as simulated
+use Rattle.simulator.proofs.Passed.{attributes-passed}
 use Rattle.scoring.specs.PlayRules.{playScore, scoredOf}
 use Rattle.scoring.specs.Scores.{Outcome, refusal, values, then, Scores, playScores, scoresOf, mapScoreOf, givenAnswer, givenScore, givenPlayOf, playAt, listedPlayOf}
 use Rattle.scoring.specs.View.{scoredIn, wantedOf, playsOf}
@@ -19,7 +21,7 @@ use Rattle.scoring.specs.declared.play_score.Scored.{Scored}
 use Rattle.scoring.specs.declared.play_score.Scored.the-variants as scored
 use Rattle.scoring.specs.declared.plays.Wanted.{Wanted}
 use Rattle.scoring.specs.declared.plays.Wanted.the-variants as wanted
-use Rattle.scoring.specs.declared.plays.Plays.the-variants as plays
+use Rattle.scoring.specs.declared.plays.Plays.the-variants as answer
 use Rattle.scoring.specs.declared.score.MapScore.the-variants as map·score
 use Rattle.scoring.specs.declared.score.GivenPlay.{GivenPlay}
 use Rattle.scoring.specs.declared.score.GivenPlay.the-variants as given
@@ -46,85 +48,99 @@ pub given-score : (x : Checked PlayScore) (s : PlayScore) → scored.Score s ≡
 given-score (refused m) s e = never (cc)
 given-score (good t) s e = let k : s ≡ t = cc in ap given.Score k
 
--- ---- a file whose plays are all good
-pub record GoodFile (i : ℕ) (r : Result) (objects : ℕ) (w : Wanted) : Type 0 where
+-- ---- a file that gets no number
+pub record NoNumber (s : List ℕ) (sc : Scores) : Type 0 where
   pub file : File
-  pub is : r ≡ accepted file
-  pub scores : List PlayScore
-  pub scored : scoresOf r ≡ values (record { map = file .map; plays = scores })
-  pub count : objects ≡ length (file .map .objects)
-  pub found : w ≡ wantedOf i scores
+  pub read : fileOf s ≡ accepted file
+  pub map : sc .map ≡ file .map
+  pub plays : playScores (file .map) (file .plays) ≡ values (sc .plays)
 
-pub good-file : (i : ℕ) (r : Result) (objects : ℕ) (w : Wanted) → plays.Good objects w ≡ playsOf i (scoresOf r) → GoodFile i r objects w
-good-file i (accepted f) objects w e = go (playScores (f .map) (f .plays)) refl e
+pub no-number : (s : List ℕ) (sc : Scores) → scoresOf (fileOf s) ≡ values sc → NoNumber s sc
+no-number s sc e = go (fileOf s) refl e
   where
-    go : (x : Outcome (List PlayScore)) → playScores (f .map) (f .plays) ≡ x → plays.Good objects w ≡ playsOf i (then x (λ ss. values (record { map = f .map; plays = ss })))
-        → GoodFile i (accepted f) objects w
-    go (refusal n at) q e = never (cc)
-    go (values ss) q e = record { file = f; is = refl; scores = ss; scored = rw q; count = cc; found = cc }
-good-file i (refusedAt n at f) objects w e = go (playScores (f .map) (f .plays)) e
-  where
-    go : (x : Outcome (List PlayScore)) → plays.Good objects w ≡ playsOf i (then x (λ ss. refusal n at)) → GoodFile i (refusedAt n at f) objects w
-    go (refusal k o) e = never (cc)
-    go (values ss) e = never (cc)
+    go : (r : Result) → fileOf s ≡ r → scoresOf r ≡ values sc → NoNumber s sc
+    go (accepted f) q e = plays (playScores (f .map) (f .plays)) refl e
+      where
+        plays : (x : Outcome (List PlayScore)) → playScores (f .map) (f .plays) ≡ x → then x (λ ss. values (record { map = f .map; plays = ss })) ≡ values sc → NoNumber s sc
+        plays (refusal n at) p e = never (cc)
+        plays (values ss) p e =
+            let same : record { map = f .map; plays = ss } ≡ sc = cc in
+            record { file = f; read = q; map = sym (ap (λ (x : Scores). x .map) same); plays = p ∙ ap (λ (x : Scores). values (x .plays)) same }
+    go (refusedAt n at f) q e = plays (playScores (f .map) (f .plays)) e
+      where
+        plays : (x : Outcome (List PlayScore)) → then x (λ ss. refusal n at) ≡ values sc → NoNumber s sc
+        plays (refusal k o) e = never (cc)
+        plays (values ss) e = never (cc)
 
--- the refusals go through
-module _ (i : ℕ) (x : Outcome Scores) (n at : ℕ) where
-  refusal-is : plays.Refused n at ≡ playsOf i x → refusal n at ≡ x
-  refusal-is e = go x e
+few-objects : (s : List ℕ) (sc : Scores) → scoresOf (fileOf s) ≡ values sc → length (sc .map .objects) ≤ 8192
+few-objects s sc e =
+    let k = no-number s sc e in
+    let few = accepted-within s (k .file) (k .read) .few-objects in
+    subst (λ (m : Map). length (m .objects) ≤ 8192) (sym (k .map)) few
+
+-- ---- the wanted play
+wanted-is : (ss : List PlayScore) (j : ℕ) (x : PlayScore) → wanted.Is x ≡ wantedOf j ss → listed.Score x ≡ playAt j ss
+unfolding wantedOf
+wanted-is [] j x e = never (cc)
+wanted-is (s ∷ ss) zero x e = let q : x ≡ s = cc in ap listed.Score q
+wanted-is (s ∷ ss) (suc j) x e = wanted-is ss j x e
+
+wanted-not : (ss : List PlayScore) (j n : ℕ) → wanted.Ahead n ≡ wantedOf j ss → listed.NoPlay ≡ playAt j ss
+unfolding wantedOf
+wanted-not [] j n e = refl
+wanted-not (s ∷ ss) zero n e = never (cc)
+wanted-not (s ∷ ss) (suc j) n e = wanted-not ss j n e
+
+-- ---- the answers of the calls
+-- a refusal goes through
+module _ (p i : ℕ) (x : Outcome Scores) (n at : ℕ) (e : answer.Refused n at ≡ playsOf p i x) where
+  refusal-is : refusal n at ≡ x
+  refusal-is = go x e
     where
-      go : (x : Outcome Scores) → plays.Refused n at ≡ playsOf i x → refusal n at ≡ x
+      go : (x : Outcome Scores) → answer.Refused n at ≡ playsOf p i x → refusal n at ≡ x
       go (refusal k o) e = let a : n ≡ k = cc in let b : at ≡ o = cc in rw (a, b)
       go (values s) e = never (cc)
 
-  pub map-refused : plays.Refused n at ≡ playsOf i x → map·score.Refused n at ≡ mapScoreOf x
-  map-refused e = ap mapScoreOf (refusal-is e)
+  pub map-refused : map·score.Refused n at ≡ mapScoreOf x
+  map-refused = ap mapScoreOf refusal-is
 
-  pub play-refused : (p : Play) → plays.Refused n at ≡ playsOf i x → given.Refused n at ≡ givenPlayOf p x
-  play-refused p e = ap (givenPlayOf p) (refusal-is e)
+  pub play-refused : (q : Play) → given.Refused n at ≡ givenPlayOf q x
+  play-refused q = ap (givenPlayOf q) refusal-is
 
-  pub listed-refused : plays.Refused n at ≡ playsOf i x → listed.Refused n at ≡ listedPlayOf i x
-  listed-refused e = ap (listedPlayOf i) (refusal-is e)
+  pub listed-refused : listed.Refused n at ≡ listedPlayOf i x
+  listed-refused = ap (listedPlayOf i) refusal-is
 
-module _ (i : ℕ) (r : Result) (objects : ℕ) (w : Wanted) (e : plays.Good objects w ≡ playsOf i (scoresOf r)) where
-  abbrev k : GoodFile i r objects w
-  k = good-file i r objects w e
+-- the values of a file without a refusal
+record Good (p i : ℕ) (x : Outcome Scores) (a : ScoreAttributes) (w : Wanted) : Type 0 where
+  scores : Scores
+  is : x ≡ values scores
+  attributes : a ≡ scoreAttributesAt (scores .map) p
+  wanted : w ≡ wantedOf i (scores .plays)
 
-  -- such a file is accepted, and the simulation gives its attributes
-  pub not-refused : {A : Type 0} (p n at : ℕ) → simulated.Refused n at ≡ simulatedOf r p → A
-  not-refused p n at q = never (clash (q ∙ ap (λ (x : Result). simulatedOf x p) (k .is)))
-    where
-      clash : {a : ScoreAttributes} → simulated.Refused n at ≡ simulated.Map a → _≡_ {A = ℕ} 0 1
-      clash e = cc
+good-is : (p i : ℕ) (x : Outcome Scores) (a : ScoreAttributes) (w : Wanted) → answer.Good a w ≡ playsOf p i x → Good p i x a w
+good-is p i (refusal n at) a w e = never (cc)
+good-is p i (values s) a w e = record { scores = s; is = refl; attributes = cc; wanted = cc }
 
-  attributes-are : (p : ℕ) (a : ScoreAttributes) → simulated.Map a ≡ simulatedOf r p → a ≡ scoreAttributesAt (k .file .map) p
-  attributes-are p a q = out (q ∙ ap (λ (x : Result). simulatedOf x p) (k .is))
-    where
-      out : {b : ScoreAttributes} → simulated.Map a ≡ simulated.Map b → a ≡ b
-      out e = cc
+-- 2 ^ 64 - 1 passed objects are all
+pub map-scored : (s : List ℕ) (i : ℕ) (a : ScoreAttributes) (w : Wanted) → answer.Good a w ≡ playsOf 18446744073709551615 i (scoresOf (fileOf s))
+    → map·score.Map a ≡ mapScoreOf (scoresOf (fileOf s))
+map-scored s i a w e =
+    let k = good-is 18446744073709551615 i (scoresOf (fileOf s)) a w e in
+    let m = k .scores .map in
+    let few = few-objects s (k .scores) (k .is) in
+    let all : min 18446744073709551615 (length (m .objects)) ≡ min (length (m .objects)) (length (m .objects)) = omega (arith, few) in
+    ap map·score.Map (k .attributes ∙ attributes-passed m 18446744073709551615 (length (m .objects)) all) ∙ sym (ap mapScoreOf (k .is))
 
-  pub map-scored : (a : ScoreAttributes) → simulated.Map a ≡ simulatedOf r objects → map·score.Map a ≡ mapScoreOf (scoresOf r)
-  map-scored a q =
-      ap map·score.Map (attributes-are objects a q ∙ ap (scoreAttributesAt (k .file .map)) (k .count)) ∙ sym (ap mapScoreOf (k .scored))
+module _ (p i : ℕ) (x : Outcome Scores) (a : ScoreAttributes) (w : Wanted) (e : answer.Good a w ≡ playsOf p i x) where
+  abbrev k : Good p i x a w
+  k = good-is p i x a w e
 
-  pub play-scored : (p : Play) (a : ScoreAttributes) (x : GivenPlay) → simulated.Map a ≡ simulatedOf r (p .«passed_objects») → x ≡ givenAnswer (givenScore p a)
-      → x ≡ givenPlayOf p (scoresOf r)
-  play-scored p a x q h = h ∙ ap (λ (b : ScoreAttributes). givenAnswer (givenScore p b)) (attributes-are (p .«passed_objects») a q) ∙ sym (ap (givenPlayOf p) (k .scored))
+  pub play-scored : (q : Play) (r : GivenPlay) → p ≡ q .«passed_objects» → r ≡ givenAnswer (givenScore q a) → r ≡ givenPlayOf q x
+  play-scored q r same h =
+      h ∙ ap (λ (b : ScoreAttributes). givenAnswer (givenScore q b)) (k .attributes ∙ ap (scoreAttributesAt (k .scores .map)) same) ∙ sym (ap (givenPlayOf q) (k .is))
 
-  wanted-is : (ss : List PlayScore) (j : ℕ) (x : PlayScore) → wanted.Is x ≡ wantedOf j ss → listed.Score x ≡ playAt j ss
-  unfolding wantedOf
-  wanted-is [] j x e = never (cc)
-  wanted-is (s ∷ ss) zero x e = let q : x ≡ s = cc in ap listed.Score q
-  wanted-is (s ∷ ss) (suc j) x e = wanted-is ss j x e
+  pub listed-scored : (s : PlayScore) → w ≡ wanted.Is s → listed.Score s ≡ listedPlayOf i x
+  listed-scored s q = wanted-is (k .scores .plays) i s (sym q ∙ k .wanted) ∙ sym (ap (listedPlayOf i) (k .is))
 
-  wanted-not : (ss : List PlayScore) (j n : ℕ) → wanted.Ahead n ≡ wantedOf j ss → listed.NoPlay ≡ playAt j ss
-  unfolding wantedOf
-  wanted-not [] j n e = refl
-  wanted-not (s ∷ ss) zero n e = never (cc)
-  wanted-not (s ∷ ss) (suc j) n e = wanted-not ss j n e
-
-  pub listed-scored : (x : PlayScore) → w ≡ wanted.Is x → listed.Score x ≡ listedPlayOf i (scoresOf r)
-  listed-scored x q = wanted-is (k .scores) i x (sym q ∙ k .found) ∙ sym (ap (listedPlayOf i) (k .scored))
-
-  pub listed-none : (n : ℕ) → w ≡ wanted.Ahead n → listed.NoPlay ≡ listedPlayOf i (scoresOf r)
-  listed-none n q = wanted-not (k .scores) i n (sym q ∙ k .found) ∙ sym (ap (listedPlayOf i) (k .scored))
+  pub listed-none : (n : ℕ) → w ≡ wanted.Ahead n → listed.NoPlay ≡ listedPlayOf i x
+  listed-none n q = wanted-not (k .scores .plays) i n (sym q ∙ k .wanted) ∙ sym (ap (listedPlayOf i) (k .is))

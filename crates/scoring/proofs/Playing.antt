@@ -1,31 +1,44 @@
--- What a loop over the plays of a file keeps: the scores of the plays read so far are those of the definition, and the map before them is a
--- file of its own. Assumes nothing.
+-- What a loop over the plays of a file keeps: the scores of the plays read so far are those of the definition, the sums those of the map, and the
+-- map before the plays is a file of its own. Assumes nothing.
 use mathlib.Core.Path.{_≡_, refl, sym, ap, _∙_, subst}
 use mathlib.Core.Bool.{Bool, true, false}
 use mathlib.Core.List.{List, [], _∷_, _++_}
-use Prim.Native.Nat.{ℕ, zero, suc, _+_, _≤_, _<_}
+use Prim.Native.Nat.{ℕ, zero, suc, _+_, _≤_, _<_, min}
 use native.Mathlib.Omega.{arith}
-use borrow.Author.Tests.{eq-eqb, ne-eqb}
+use borrow.Author.Tests.{eq-eqb, ne-eqb, eqb-true}
 use lib.Dec.{eqb, ltb}
-use lib.ListN.{length, take, drop, take-append-drop}
-use lib.Seq.{length-take-le}
+use lib.ListN.{length, take, drop}
 use Rattle.records.specs.Refusals.{Checked, good, refused, pick}
 use Rattle.records.specs.Objects.{Object}
 use Rattle.records.specs.Records.{Content, header, break, object, play, Found, contentView}
 use Rattle.records.specs.Order.{recordOf}
 use Rattle.records.specs.File.{Map, File, Result, accepted, refusedAt, countsOf, with-record, follow, ended, fileFrom, fresh, fileOf}
-use Rattle.records.specs.View.{stepOf, freshOf}
+use Rattle.records.specs.View.{stepOf, countedIn}
 use Rattle.records.specs.declared.play.Play.{Play}
 use Rattle.records.specs.declared.record.Record.{Record}
+use Rattle.records.specs.declared.record.Record.the-variants as record·case
+use Rattle.records.specs.declared.file.Counts.{Counts}
 use Rattle.records.specs.declared.file.Reader.{Reader}
+use Rattle.records.specs.declared.hit_object.HitObject.{HitObject}
 use Rattle.records.specs.declared.file.Step.{Step}
 use Rattle.records.specs.declared.file.Step.the-variants as step
 use Rattle.records.proofs.All.{all-out}
-use Rattle.records.proofs.Reading.{Chain, start, Kept, Moved, Seen, seen, all-read, chain-on, chain-inside, chain-plays, found-ordered, foundAt, kept-start, kept-step, kept-stop, part-file}
+use Rattle.records.proofs.Reading.{Chain, start, Kept, Moved, Seen, seen, all-read, chain-on, chain-inside, chain-file, chain-plays, found-ordered, foundAt, with-last, kept-start, kept-step, kept-stop}
 use Rattle.records.proofs.Room.{placeOf, Begun, record-begun}
-use Rattle.scoring.specs.PlayRules.{scoredOf}
+use Rattle.encoding.specs.Limits.{MapWithin}
+use Rattle.simulator.specs.Attributes.{scoreAttributesAt}
+use Rattle.simulator.specs.Limits.{Room}
+use Rattle.simulator.specs.Sums.{sumsOf, withRecord, Complete, attributesIn}
+use Rattle.simulator.specs.Runs.{Steps, none, more, Ready}
+use Rattle.simulator.specs.declared.attributes.ScoreAttributes.{ScoreAttributes}
+use Rattle.simulator.specs.declared.simulate.Sums.{Sums}
+use Rattle.simulator.proofs.Passed.{attributes-passed}
+use Rattle.simulator.proofs.Summing.{Summing, summing-room, summing-step, complete, attributes-are, kept-summing, kept-limits}
+use Rattle.simulator.proofs.Running.{summing-steps, summing-ready}
+use Rattle.scoring.specs.PlayRules.{playScore, scoredOf}
 use Rattle.scoring.specs.Scores.{Outcome, refusal, values, then, Scores, playScoreOn, playScores, scoresOf}
-use Rattle.scoring.specs.View.{wantedOf, wantedAfter, walkStart, scoredIn, recordScoreIn, walkedBehind, walkedStep, walkedOf, playsOf}
+use Rattle.scoring.specs.View.{wantedOf, wantedAfter, walkStart, scoredIn, scoredAt, recordScoreAt, walkedBehind, walkedStep, walkedOf, playsOf}
+use Rattle.scoring.specs.Reached.{Reached, Scorable, RunOn, still, ran}
 use Rattle.scoring.specs.declared.play_score.PlayScore.{PlayScore}
 use Rattle.scoring.specs.declared.play_score.Scored.{Scored}
 use Rattle.scoring.specs.declared.plays.Wanted.{Wanted}
@@ -38,6 +51,18 @@ use Rattle.scoring.proofs.Lists.{scores-none, scores-more, scores-refus
 
 never : {A : Type 0} → _≡_ {A = ℕ} 0 1 → A
 never e = absurd (omega arith)
+
+counts-last : (f : File) → countsOf f .last ≡ f .last
+unfolding countsOf
+counts-last f = refl
+
+counted-last : (c : Counts) (o : HitObject) → countedIn c (record·case.Object o) .last ≡ 3
+unfolding countedIn
+counted-last c o = refl
+
+not-zero : (n : ℕ) → (n ≡ 0 → ⊥) → 0 < n
+not-zero zero e = absurd (e refl)
+not-zero (suc n) e = omega arith
 
 -- ---- a refused play refuses the file, whatever follows: behind it only plays can be read, and they change neither the map nor what was refused
 pub record Ended (f : File) (n at : ℕ) : Type 0 where
@@ -68,187 +93,326 @@ from-refuses (suc fuel) s f n at e =
   where
     go : ((r : Content × ℕ) → foundAt s f ≡ good r → Refuses n at (fileFrom fuel s (with-record f r))) → (b : Bool) (x : Found) → foundAt s f ≡ x
         → Refuses n at (pick b (follow f x (λ r. fileFrom fuel s (with-record f r))) (ended f))
-    go more false x q = end-refuses f n at e
-    go more true (refused k) q = stop-refuses f n at k (f .at) e
-    go more true (good r) q = more r q
+    go on false x q = end-refuses f n at e
+    go on true (refused k) q = stop-refuses f n at k (f .at) e
+    go on true (good r) q = on r q
 
--- ---- what was read of a file, with the scores of the plays read so far
-pub record Played (s : List ℕ) (reader : Reader) (end : ℕ) (scores : List PlayScore) : Type 0 where
-  pub file : File
-  pub kept : Kept s file reader
-  pub same : playScores (file .map) (file .plays) ≡ values scores
-  -- what was read when the map ended
-  pub map-file : File
-  pub map-chain : Chain s map-file
-  pub map-end : map-file .at ≡ end
-  pub map-same : map-file .map ≡ file .map
-  pub map-begun : 0 < file .last → 0 < map-file .last
+-- ---- what was reached
+pub reached-start : (s : List ℕ) (p i : ℕ) → Reached s p (walkStart p i)
+reached-start s p i = record {
+  file = fresh;
+  kept = kept-start s;
+  sums = refl;
+  map-file = fresh;
+  map-chain = start;
+  map-end = refl;
+  map-same = refl;
+  map-begun = λ h. h;
+}
 
-pub played-start : (s : List ℕ) → Played s freshOf 0 []
-unfolding playScores
-played-start s =
-    record { file = fresh; kept = kept-start s; same = refl; map-file = fresh; map-chain = start; map-end = refl; map-same = refl; map-begun = λ h. h }
-
-module _ {s : List ℕ} {reader : Reader} {end : ℕ} {scores : List PlayScore} (k : Played s reader end scores) where
-  pub played-inside : end ≤ length s
-  played-inside = let h = chain-inside s (k .map-file) (k .map-chain) in omega (arith, h, k .map-end)
-
+module _ {s : List ℕ} {p : ℕ} {w : Walk} (k : Reached s p w) where
   abbrev f : File
   f = k .file
 
   abbrev g : File
   g = k .map-file
 
+  abbrev pub reached-summing : Summing s p (w .reader) (w .sums)
+  reached-summing = kept-summing s p f (w .reader) (w .sums) (k .kept) (k .sums)
+
+  pub reached-inside : w .end ≤ length s
+  reached-inside = let h = chain-inside s g (k .map-chain) in omega (arith, h, k .map-end)
+
+  pub reached-ready : Ready (w .reader) (w .sums)
+  reached-ready = summing-ready reached-summing
+
   -- the map before the plays, as a file
-  map-is : 0 < f .last → fileOf (take end s) ≡ accepted g
-  map-is h =
-      let inside = played-inside in
-      let whole : take end s ++ drop end s ≡ s = take-append-drop end s in
-      let size : g .at ≡ length (take end s) = k .map-end ∙ sym (length-take-le end s inside) in
-      let last = k .map-begun h in
-      part-file (take end s) (drop end s) g (subst (λ (l : List ℕ). Chain l g) (sym whole) (k .map-chain)) size
-      ∙ simp (ne-eqb (g .last) 0 (λ z. (omega (arith, last, z))))
+  map-is : 0 < f .last → fileOf (take (w .end) s) ≡ accepted g
+  map-is h = ap (λ (n : ℕ). fileOf (take n s)) (sym (k .map-end)) ∙ chain-file s g (k .map-chain) (k .map-begun h)
 
-  -- ---- the end of the file
-  module _ (h : length s ≤ reader .at) where
-    abbrev read : fileOf s ≡ ended f
-    read = all-read s f reader (k .kept) h
+  module _ (h : 0 < f .last) where
+    limits : MapWithin (f .map)
+    limits = kept-limits s f (w .reader) (k .kept) h
 
-    pub played-none : reader .counts .last ≡ 0 → scoresOf (fileOf s) ≡ refusal 3 0
-    played-none e = rw read (simp (eq-eqb (f .last) 0 (sym (seen f (k .kept .viewed) .last) ∙ e)) (rw (k .same)))
+    pub reached-complete : Complete (w .reader) (w .sums)
+    reached-complete = complete reached-summing limits
 
-    pub played-end : (reader .counts .last ≡ 0 → ⊥) → scoresOf (fileOf s) ≡ values (record { map = f .map; plays = scores })
-    played-end e = rw read (simp (ne-eqb (f .last) 0 (λ z. e (seen f (k .kept .viewed) .last ∙ z))) (rw (k .same)))
+    pub reached-attributes : attributesIn s (w .reader) (w .sums) ≡ scoreAttributesAt (f .map) p
+    reached-attributes = attributes-are reached-summing limits
 
-    pub played-objects : reader .counts .objects ≡ length (f .map .objects)
-    played-objects = seen f (k .kept .viewed) .objects
+    -- a play's score is that on the map
+    pub reached-score : (q : Play) → scoredAt s w p q ≡ scoredOf (playScoreOn (f .map) q)
+    reached-score q = go (eqb (min (q .«passed_objects») (w .reader .counts .objects)) (min p (w .reader .counts .objects))) refl
+      where
+        go : (b : Bool) → eqb (min (q .«passed_objects») (w .reader .counts .objects)) (min p (w .reader .counts .objects)) ≡ b
+            → pick b (scoredOf (playScore q (attributesIn s (w .reader) (w .sums)))) (scoredIn (fileOf (take (w .end) s)) q) ≡ scoredOf (playScoreOn (f .map) q)
+        go true e =
+            let n = seen f (k .kept .viewed) .objects in
+            let same : min p (length (f .map .objects)) ≡ min (q .«passed_objects») (length (f .map .objects)) =
+            ap (λ (x : ℕ). min p x) (sym n) ∙ sym (eqb-true _ _ e) ∙ ap (λ (x : ℕ). min (q .«passed_objects») x) n in
+            ap (λ (a : ScoreAttributes). scoredOf (playScore q a)) (reached-attributes ∙ attributes-passed (f .map) p (q .«passed_objects») same)
+        go false e = ap (λ (r : Result). scoredIn r q) (map-is h) ∙ ap (λ (m : Map). scoredOf (playScoreOn m q)) (k .map-same)
 
--- ---- one more record
-module _ {s : List ℕ} (w : Walk) {scores : List PlayScore} (k : Played s (w .reader) (w .end) scores) (h : w .reader .at < length s) where
-  abbrev here : File
-  here = k .file
+  -- ---- what the steps ask for
+  module _ (h : w .reader .at < length s) (item : Record) (next : Reader)
+      (e : step.Next item next ≡ stepOf (w .reader) (recordOf (drop (w .reader .at) s) (w .reader .counts))) where
+    abbrev moved : Moved s f (w .reader) item next
+    moved = kept-step s f (w .reader) (k .kept) h item next e
 
-  found-begun : (p : Play) (n : ℕ) → foundAt s here ≡ good (play p, n) → 0 < here .last
-  unfolding countsOf
-  found-begun p n q = all-out (rw q at (record-begun (drop (here .at) s) (countsOf here)))
+    found-begun : Begun (countsOf f) (moved .content .0)
+    found-begun = all-out (rw (moved .found) at (record-begun (drop (f .at) s) (countsOf f)))
 
-  -- a record of the map: no play was read yet, and the map now ends behind it
-  map-step : (x : Content) (n : ℕ) (next : Reader) → foundAt s here ≡ good (x, n) → placeOf x ≤ 3 → with-record here (x, n) .plays ≡ here .plays
-      → Kept s (with-record here (x, n)) next → Played s next (next .at) scores
-  map-step x n next q early same kept =
-      let before = found-ordered s here (x, n) q in
-      let nothing : here .plays ≡ [] = chain-plays s here (k .kept .chain) (omega (arith, before, early)) in
-      let none : playScores (here .map) (here .plays) ≡ values [] = ap (playScores (here .map)) nothing ∙ scores-none (here .map) in
-      record {
-        file = with-record here (x, n);
-        kept = kept;
-        same = ap (playScores (with-record here (x, n) .map)) (same ∙ nothing) ∙ scores-none (with-record here (x, n) .map) ∙ sym none ∙ k .same;
-        map-file = with-record here (x, n);
-        map-chain = kept .chain;
-        map-end = sym (seen (with-record here (x, n)) (kept .viewed) .at);
+    pub reached-scorable : Scorable (w .reader) (w .sums) item
+    reached-scorable = rw (moved .same) (go (moved .content .0) found-begun)
+      where
+        late : countsOf f .last ≡ f .last
+        late = counts-last f
+
+        go : (x : Content) → Begun (countsOf f) x → Scorable (w .reader) (w .sums) (contentView x)
+        go (header t) b = tt
+        go (break t) b = tt
+        go (object o) b = tt
+        go (play q) b = reached-complete (omega (arith, late, b))
+
+    pub reached-room : Room (w .sums) item
+    reached-room = summing-room reached-summing h item next e
+
+-- ---- what was read, with the scores of the plays so far
+pub record Played (s : List ℕ) (p : ℕ) (w : Walk) (scores : List PlayScore) : Type 0 where
+  pub reached : Reached s p w
+  pub same : playScores (reached .file .map) (reached .file .plays) ≡ values scores
+
+pub played-start : (s : List ℕ) (p i : ℕ) → Played s p (walkStart p i) []
+unfolding playScores reached-start
+played-start s p i = record { reached = reached-start s p i; same = refl }
+
+-- before the first play: the map ends where the reader stands
+map-played : {s : List ℕ} {p : ℕ} {reader : Reader} {sums : Sums} (k : Summing s p reader sums) → reader .counts .last ≤ 3 → (wanted : Wanted)
+    → Played s p (record { reader = reader; sums = sums; end = reader .at; wanted = wanted }) []
+map-played {s = s} k early wanted =
+    let f = k .file in
+    let sees = seen f (k .kept .viewed) in
+    let nothing : f .plays ≡ [] = chain-plays s f (k .kept .chain) (omega (arith, early, sees .last)) in
+    record {
+      reached = record {
+        file = f;
+        kept = k .kept;
+        sums = k .same;
+        map-file = f;
+        map-chain = k .kept .chain;
+        map-end = sym (sees .at);
         map-same = refl;
         map-begun = λ b. b;
-      }
+      };
+      same = ap (playScores (f .map)) nothing ∙ scores-none (f .map);
+    }
+
+-- and then there are no scores
+no-scores : {s : List ℕ} {p : ℕ} {w : Walk} {scores : List PlayScore} → Played s p w scores → w .reader .counts .last ≤ 3 → scores ≡ []
+no-scores {s = s} {scores = scores} k early =
+    let f = k .reached .file in
+    let last = seen f (k .reached .kept .viewed) .last in
+    let nothing : f .plays ≡ [] = chain-plays s f (k .reached .kept .chain) (omega (arith, early, last)) in
+    values-are (sym (k .same) ∙ ap (playScores (f .map)) nothing ∙ scores-none (f .map))
+  where
+    values-are : {a b : List PlayScore} → _≡_ {A = Outcome (List PlayScore)} (values a) (values b) → a ≡ b
+    values-are e = cc
+
+-- ---- one more record
+module _ {s : List ℕ} {p : ℕ} {w : Walk} {scores : List PlayScore} (k : Played s p w scores) (h : w .reader .at < length s) where
+  abbrev here : File
+  here = k .reached .file
 
   -- a play that is good
-  play-step : (p : Play) (n : ℕ) (next : Reader) (score : PlayScore) → foundAt s here ≡ good (play p, n) → playScoreOn (here .map) p ≡ good score
-      → Kept s (with-record here (play p, n)) next → Played s next (w .end) (scores ++ (score ∷ []))
+  play-step : (q : Play) (n : ℕ) (next : Reader) (score : PlayScore) → 0 < here .last → playScoreOn (here .map) q ≡ good score
+      → Kept s (with-record here (play q, n)) next
+      → Played s p (record { reader = next; sums = w .sums; end = w .end; wanted = wantedAfter (w .wanted) score }) (scores ++ (score ∷ []))
   unfolding with-record
-  play-step p n next score found q kept = record {
-    file = with-record here (play p, n);
-    kept = kept;
-    same = scores-more (here .map) (here .at) p (here .plays) scores (k .same) score q;
-    map-file = k .map-file;
-    map-chain = k .map-chain;
-    map-end = k .map-end;
-    map-same = k .map-same;
-    map-begun = λ _. k .map-begun (found-begun p n found);
+  play-step q n next score begun e kept = record {
+    reached = record {
+      file = with-record here (play q, n);
+      kept = kept;
+      sums = k .reached .sums;
+      map-file = k .reached .map-file;
+      map-chain = k .reached .map-chain;
+      map-end = k .reached .map-end;
+      map-same = k .reached .map-same;
+      map-begun = λ _. k .reached .map-begun begun;
+    };
+    same = scores-more (here .map) (here .at) q (here .plays) scores (k .same) score e;
   }
 
   -- a play that is refused
-  play-stop : (p : Play) (n : ℕ) (number : ℕ) → Chain s (with-record here (play p, n)) → playScoreOn (here .map) p ≡ refused number
+  play-stop : (q : Play) (n : ℕ) (number : ℕ) → Chain s (with-record here (play q, n)) → playScoreOn (here .map) q ≡ refused number
       → scoresOf (fileOf s) ≡ refusal number (here .at)
   unfolding with-record
-  play-stop p n number chain q =
-      let behind = with-record here (play p, n) in
+  play-stop q n number chain e =
+      let behind = with-record here (play q, n) in
       let on = chain-on s behind chain in
-      let all = scores-refused (here .map) (here .at) p (here .plays) scores (k .same) number q in
+      let all = scores-refused (here .map) (here .at) q (here .plays) scores (k .same) number e in
       subst (Refuses number (here .at)) (on .rest) (from-refuses (on .fuel) s behind number (here .at) (record { late = refl; refuses = all }))
 
   -- what a step of the code leaves
   pub data After : Walked → Type 0 where
-    passes : {next : Walk} → w .reader .at < next .reader .at → next .wanted ≡ w .wanted → Played s (next .reader) (next .end) scores → After (walked.Next next)
+    passes : {next : Walk} → w .reader .at < next .reader .at → next .wanted ≡ w .wanted → Played s p next scores → After (walked.Next next)
     plays : {next : Walk} (score : PlayScore) → w .reader .at < next .reader .at → next .wanted ≡ wantedAfter (w .wanted) score
-        → Played s (next .reader) (next .end) (scores ++ (score ∷ [])) → After (walked.Next next)
+        → Played s p next (scores ++ (score ∷ [])) → After (walked.Next next)
     stops : {n at : ℕ} → scoresOf (fileOf s) ≡ refusal n at → After (walked.Refused n at)
 
-  -- behind a play: its score is that on the map's own file
-  play-after : (p : Play) (n : ℕ) (next : Reader) → foundAt s here ≡ good (play p, n) → Kept s (with-record here (play p, n)) next → w .reader .at < next .at
-      → After (walkedBehind w next (recordScoreIn (fileOf (take (w .end) s)) (contentView (play p))))
-  play-after p n next found kept ahead =
-      let map : scoredIn (fileOf (take (w .end) s)) p ≡ scoredOf (playScoreOn (here .map) p) =
-      ap (λ (r : Result). scoredIn r p) (map-is k (found-begun p n found)) ∙ ap (λ (m : Map). scoredOf (playScoreOn m p)) (k .map-same) in
-      subst (λ (x : Scored). After (walkedBehind w next (record·score.Play x))) (sym map) (go (playScoreOn (here .map) p) refl)
-    where
-      go : (x : Checked PlayScore) → playScoreOn (here .map) p ≡ x → After (walkedBehind w next (record·score.Play (scoredOf x)))
-      go (refused number) q = stops (play-stop p n number (kept .chain) q ∙ ap (refusal number) (sym (seen here (k .kept .viewed) .at)))
-      go (good score) q = plays score ahead refl (play-step p n next score found q kept)
+  module _ (item : Record) (next : Reader) (e : step.Next item next ≡ stepOf (w .reader) (recordOf (drop (w .reader .at) s) (w .reader .counts))) where
+    abbrev m : Moved s here (w .reader) item next
+    m = moved (k .reached) h item next e
 
-  content-after : (x : Content) (n : ℕ) (next : Reader) → foundAt s here ≡ good (x, n) → Kept s (with-record here (x, n)) next → w .reader .at < next .at
-      → After (walkedBehind w next (recordScoreIn (fileOf (take (w .end) s)) (contentView x)))
-  unfolding with-record
-  content-after (header t) n next found kept ahead = passes ahead refl (map-step (header t) n next found (omega arith) refl kept)
-  content-after (break b) n next found kept ahead = passes ahead refl (map-step (break b) n next found (omega arith) refl kept)
-  content-after (object o) n next found kept ahead = passes ahead refl (map-step (object o) n next found (omega arith) refl kept)
-  content-after (play p) n next found kept ahead = play-after p n next found kept ahead
+    abbrev sums′ : Sums
+    sums′ = withRecord p (w .reader .counts .objects) (w .sums) item
 
-  pub after : After (walkedOf s w)
+    -- behind a record of the map
+    map-after : placeOf (m .content .0) ≤ 3 → After (walked.Next (record { reader = next; sums = sums′; end = next .at; wanted = w .wanted }))
+    map-after early =
+        let place = seen (with-record here (m .content)) (m .kept .viewed) .last ∙ with-last here (m .content) in
+        let before = seen here (k .reached .kept .viewed) .last in
+        let order = found-ordered s here (m .content) (m .found) in
+        let none : scores ≡ [] = no-scores k (omega (arith, before, order, early)) in
+        let behind = summing-step (reached-summing (k .reached)) h item next e sums′ refl in
+        let read : Played s p (record { reader = next; sums = sums′; end = next .at; wanted = w .wanted }) [] = map-played behind (omega (arith, place, early)) (w .wanted) in
+        passes (m .ahead) refl (subst (Played s p (record { reader = next; sums = sums′; end = next .at; wanted = w .wanted })) (sym none) read)
+
+    content-after : (x : Content) → m .content .0 ≡ x → After (walkedBehind w next sums′ (recordScoreAt s w p (contentView x)))
+    content-after (header t) q = map-after (rw q (omega arith))
+    content-after (break b) q = map-after (rw q (omega arith))
+    content-after (object o) q = map-after (rw q (omega arith))
+    content-after (play q) r =
+        play-after
+        (subst (λ (x : Content). foundAt s here ≡ good (x, m .content .1)) r (m .found))
+        (subst (λ (x : Content). Kept s (with-record here (x, m .content .1)) next) r (m .kept))
+        (m .same ∙ ap contentView r)
+      where
+        late : countsOf here .last ≡ here .last
+        late = counts-last here
+
+        play-after : foundAt s here ≡ good (play q, m .content .1) → Kept s (with-record here (play q, m .content .1)) next → item ≡ record·case.Play q
+            → After (walkedBehind w next sums′ (record·score.Play (scoredAt s w p q)))
+        play-after found kept is =
+            let begun : 0 < here .last = (let b : Begun (countsOf here) (play q) = all-out (rw found at (record-begun (drop (here .at) s) (countsOf here))) in omega (arith, late, b)) in
+            subst (λ (x : Scored). After (walkedBehind w next sums′ (record·score.Play x))) (sym (reached-score (k .reached) begun q)) (go begun (playScoreOn (here .map) q) refl)
+          where
+            unchanged : sums′ ≡ w .sums
+            unchanged = ap (withRecord p (w .reader .counts .objects) (w .sums)) is
+
+            go : 0 < here .last → (x : Checked PlayScore) → playScoreOn (here .map) q ≡ x → After (walkedBehind w next sums′ (record·score.Play (scoredOf x)))
+            go begun (refused number) e = stops (play-stop q (m .content .1) number (kept .chain) e ∙ ap (refusal number) (sym (seen here (k .reached .kept .viewed) .at)))
+            go begun (good score) e =
+                plays score (m .ahead) refl
+                (subst (λ (x : Sums). Played s p (record { reader = next; sums = x; end = w .end; wanted = wantedAfter (w .wanted) score }) (scores ++ (score ∷ [])))
+                (sym unchanged)
+                (play-step q (m .content .1) next score begun e kept))
+
+  pub after : After (walkedOf s p w)
   after = go (stepOf (w .reader) (recordOf (drop (w .reader .at) s) (w .reader .counts))) refl
     where
-      go : (x : Step) → stepOf (w .reader) (recordOf (drop (w .reader .at) s) (w .reader .counts)) ≡ x → After (walkedStep w (fileOf (take (w .end) s)) x)
-      go (step.Refused n at) q = stops {n = n} {at = at} (rw (kept-stop s here (w .reader) (k .kept) h n at (sym q)) (rw (k .same)))
+      go : (x : Step) → stepOf (w .reader) (recordOf (drop (w .reader .at) s) (w .reader .counts)) ≡ x → After (walkedStep s p w x)
+      go (step.Refused n at) q = stops {n = n} {at = at} (rw (kept-stop s here (w .reader) (k .reached .kept) h n at (sym q)) (rw (k .same)))
       go (step.Next item next) q =
-          let m = kept-step s here (w .reader) (k .kept) h item next (sym q) in
-          rw (m .same) (content-after (m .content .0) (m .content .1) next (m .found) (m .kept) (m .ahead))
+          let m = moved (k .reached) h item next (sym q) in
+          subst (λ (x : Record). After (walkedBehind w next (withRecord p (w .reader .counts .objects) (w .sums) item) (recordScoreAt s w p x))) (sym (m .same))
+          (content-after item next (sym q) (m .content .0) refl)
+
+-- ---- objects that are read on
+steps-last : {s : List ℕ} {p : ℕ} {reader r : Reader} {sums x : Sums} → Summing s p reader sums → Steps s p reader sums r x → reader .counts .last ≡ 3 → r .counts .last ≡ 3
+steps-last k none e = e
+steps-last {s = s} {p = p} k (more {r = r} {next = next} {o = o} steps h q) e = next-last (stepped (recordOf (drop (r .at) s) (r .counts)) q)
+  where
+    next-last : next .counts ≡ countedIn (r .counts) (record·case.Object o) → next .counts .last ≡ 3
+    next-last c = ap (λ x. x .last) c ∙ counted-last (r .counts) o
+
+    stepped : (x : Found) → step.Next (record·case.Object o) next ≡ stepOf r x → next .counts ≡ countedIn (r .counts) (record·case.Object o)
+    stepped (refused n) e = never (cc)
+    stepped (good c) e = let i : record·case.Object o ≡ contentView (c .0) = cc in let n : next .counts ≡ countedIn (r .counts) (contentView (c .0)) = cc in n ∙ ap (countedIn (r .counts)) (sym i)
+
+pub record RanOn (s : List ℕ) (p : ℕ) (w r : Walk) (scores : List PlayScore) : Type 0 where
+  pub played : Played s p r scores
+  pub ahead : w .reader .at ≤ r .reader .at
+  pub wanted : r .wanted ≡ w .wanted
+
+pub ran-on : {s : List ℕ} {p : ℕ} {w : Walk} {scores : List PlayScore} → Played s p w scores → (r : Walk) → RunOn s p w r → RanOn s p w r scores
+ran-on k r still = record { played = k; ahead = omega arith; wanted = refl }
+ran-on {s = s} {p = p} {w = w} {scores = scores} k r (ran third steps end wanted) =
+    let before = reached-summing (k .reached) in
+    let behind = summing-steps before steps in
+    let last = steps-last before steps third in
+    let none : scores ≡ [] = no-scores k (omega (arith, third)) in
+    let read = map-played (behind .0) (omega (arith, last)) (r .wanted) in
+    record {
+      played = subst (Played s p r) (sym none) (subst (λ (n : ℕ). Played s p (record { reader = r .reader; sums = r .sums; end = n; wanted = r .wanted }) []) (sym end) read);
+      ahead = behind .1;
+      wanted = wanted;
+    }
+
+-- ---- the end of the file
+module _ {s : List ℕ} {p : ℕ} {w : Walk} {scores : List PlayScore} (k : Played s p w scores) (h : length s ≤ w .reader .at) where
+  abbrev last-file : File
+  last-file = k .reached .file
+
+  abbrev read : fileOf s ≡ ended last-file
+  read = all-read s last-file (w .reader) (k .reached .kept) h
+
+  pub played-none : w .reader .counts .last ≡ 0 → scoresOf (fileOf s) ≡ refusal 3 0
+  played-none e = rw read (simp (eq-eqb (last-file .last) 0 (sym (seen last-file (k .reached .kept .viewed) .last) ∙ e)) (rw (k .same)))
+
+  module _ (e : w .reader .counts .last ≡ 0 → ⊥) where
+    pub played-end : scoresOf (fileOf s) ≡ values (record { map = last-file .map; plays = scores })
+    played-end = rw read (simp (ne-eqb (last-file .last) 0 (λ z. e (seen last-file (k .reached .kept .viewed) .last ∙ z))) (rw (k .same)))
+
+    some : 0 < last-file .last
+    some = let sees = seen last-file (k .reached .kept .viewed) .last in not-zero (last-file .last) (λ z. e (sees ∙ z))
+
+    pub played-complete : Complete (w .reader) (w .sums)
+    played-complete = reached-complete (k .reached) some
+
+    pub played-attributes : attributesIn s (w .reader) (w .sums) ≡ scoreAttributesAt (last-file .map) p
+    played-attributes = reached-attributes (k .reached) some
 
 -- ---- the loop that keeps the wanted play
-pub record Playing (s : List ℕ) (i : ℕ) (w : Walk) : Type 0 where
+pub record Playing (s : List ℕ) (p i : ℕ) (w : Walk) : Type 0 where
   pub scores : List PlayScore
-  pub played : Played s (w .reader) (w .end) scores
+  pub played : Played s p w scores
   pub wanted : w .wanted ≡ wantedOf i scores
 
-pub playing-start : (s : List ℕ) (i : ℕ) → Playing s i (walkStart i)
+pub playing-start : (s : List ℕ) (p i : ℕ) → Playing s p i (walkStart p i)
 unfolding wantedOf
-playing-start s i = record { scores = []; played = played-start s; wanted = refl }
+playing-start s p i = record { scores = []; played = played-start s p i; wanted = refl }
 
-module _ {s : List ℕ} {i : ℕ} {w : Walk} (k : Playing s i w) where
+module _ {s : List ℕ} {p i : ℕ} {w : Walk} (k : Playing s p i w) where
   module _ (h : w .reader .at < length s) where
-    pub playing-next : (next : Walk) → walked.Next next ≡ walkedOf s w → (w .reader .at < next .reader .at) × Playing s i next
-    playing-next next e = out (subst (After w (k .played) h) (sym e) (after w (k .played) h))
+    pub playing-next : (next : Walk) → walked.Next next ≡ walkedOf s p w → (w .reader .at < next .reader .at) × Playing s p i next
+    playing-next next e = out (subst (After (k .played) h) (sym e) (after (k .played) h))
       where
-        out : After w (k .played) h (walked.Next next) → (w .reader .at < next .reader .at) × Playing s i next
-        out (passes a q p) = (a, record { scores = k .scores; played = p; wanted = q ∙ k .wanted })
-        out (plays score a q p) = (
+        out : After (k .played) h (walked.Next next) → (w .reader .at < next .reader .at) × Playing s p i next
+        out (passes a q r) = (a, record { scores = k .scores; played = r; wanted = q ∙ k .wanted })
+        out (plays score a q r) = (
           a,
           record {
             scores = k .scores ++ (score ∷ []);
-            played = p;
+            played = r;
             wanted = q ∙ ap (λ (x : Wanted). wantedAfter x score) (k .wanted) ∙ wanted-more i (k .scores) score;
           },
         )
 
-    pub playing-stop : (n at : ℕ) → walked.Refused n at ≡ walkedOf s w → answer.Refused n at ≡ playsOf i (scoresOf (fileOf s))
-    playing-stop n at e = out (subst (After w (k .played) h) (sym e) (after w (k .played) h))
+    pub playing-stop : (n at : ℕ) → walked.Refused n at ≡ walkedOf s p w → answer.Refused n at ≡ playsOf p i (scoresOf (fileOf s))
+    playing-stop n at e = out (subst (After (k .played) h) (sym e) (after (k .played) h))
       where
-        out : After w (k .played) h (walked.Refused n at) → answer.Refused n at ≡ playsOf i (scoresOf (fileOf s))
-        out (stops q) = sym (ap (playsOf i) q)
+        out : After (k .played) h (walked.Refused n at) → answer.Refused n at ≡ playsOf p i (scoresOf (fileOf s))
+        out (stops q) = sym (ap (playsOf p i) q)
+
+  pub playing-on : (r : Walk) → RunOn s p w r → (w .reader .at ≤ r .reader .at) × Playing s p i r
+  playing-on r run = let on = ran-on (k .played) r run in (on .ahead, record { scores = k .scores; played = on .played; wanted = on .wanted ∙ k .wanted })
 
   module _ (h : length s ≤ w .reader .at) where
-    pub playing-none : w .reader .counts .last ≡ 0 → answer.Refused 3 0 ≡ playsOf i (scoresOf (fileOf s))
-    playing-none e = sym (ap (playsOf i) (played-none (k .played) h e))
+    pub playing-none : w .reader .counts .last ≡ 0 → answer.Refused 3 0 ≡ playsOf p i (scoresOf (fileOf s))
+    playing-none e = sym (ap (playsOf p i) (played-none (k .played) h e))
 
-    pub playing-end : (w .reader .counts .last ≡ 0 → ⊥) → answer.Good (w .reader .counts .objects) (w .wanted) ≡ playsOf i (scoresOf (fileOf s))
+    pub playing-end : (w .reader .counts .last ≡ 0 → ⊥) → answer.Good (attributesIn s (w .reader) (w .sums)) (w .wanted) ≡ playsOf p i (scoresOf (fileOf s))
     playing-end e =
-        ap (λ (n : ℕ). answer.Good n (w .wanted)) (played-objects (k .played) h)
-        ∙ ap (answer.Good (length (k .played .file .map .objects))) (k .wanted)
-        ∙ sym (ap (playsOf i) (played-end (k .played) h e))
+        ap (λ (a : ScoreAttributes). answer.Good a (w .wanted)) (played-attributes (k .played) h e)
+        ∙ ap (answer.Good (scoreAttributesAt (k .played .reached .file .map) p)) (k .wanted)
+        ∙ sym (ap (playsOf p i) (played-end (k .played) h e))

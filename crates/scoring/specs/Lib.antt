@@ -1,3 +1,4 @@
 pub mod PlayRules
 pub mod Scores
 pub mod View
+pub mod Reached

@@ -2,19 +2,27 @@
 use crate::play_score::PlayScore;
 use crate::play_score::Scored;
 use crate::play_score::score_on;
+use estimates::counts::least;
 use records::file::Reader;
 use records::file::Step;
 use records::file::read_record;
 use records::play::Play;
 use records::record::Record;
+use simulator::attributes::ScoreAttributes;
 use simulator::simulate::Simulated;
+use simulator::simulate::Sums;
+use simulator::simulate::attributes_of;
 use simulator::simulate::simulate;
+use simulator::tally::pass_objects;
+use simulator::tally::skip_objects;
 ghost use mathlib.Core.Path.{_≡_};
-ghost use Prim.Native.Nat.{_≤_};
+ghost use Prim.Native.Nat.{_≤_, _<_};
 ghost use lib.ListN.{length};
 ghost use Rattle.records.specs.File.{fileOf};
 ghost use Rattle.scoring.specs.Scores.{scoresOf};
-ghost use Rattle.scoring.specs.View.{wantedAfter, walkStart, walkedBehind, scoredIn, recordScoreIn, walkedOf, playsOf};
+ghost use Rattle.simulator.specs.Sums.{Complete};
+ghost use Rattle.scoring.specs.View.{wantedAfter, walkStart, walkedBehind, scoredIn, scoredAt, recordScoreAt, walkedOf, playsOf};
+ghost use Rattle.scoring.specs.Reached.{Scorable, Reached, RunOn};
 
 // The score of the wanted play, or how many plays stand between it and what was read.
 pub enum Wanted {
@@ -28,9 +36,10 @@ pub enum RecordScore {
     Play(Scored),
 }
 
-// Where a reader of plays stands. The map ends at `end`.
+// Where a reader of plays stands. The sums are those of the map's first objects, as many as were asked for, and the map ends at `end`.
 pub struct Walk {
     pub reader: Reader,
+    pub sums: Sums,
     pub end: usize,
     pub wanted: Wanted,
 }
@@ -40,9 +49,9 @@ pub enum Walked {
     Refused { number: u8, offset: usize },
 }
 
-// Of a file whose plays are all good: how many objects it has, and the wanted play.
+// Of a file whose plays are all good: the attributes of its first objects, and the wanted play.
 pub enum Plays {
-    Good { objects: u64, wanted: Wanted },
+    Good(ScoreAttributes, Wanted),
     Refused { number: u8, offset: usize },
 }
 
@@ -64,24 +73,26 @@ impl Wanted {
 }
 
 impl Walk {
-    pub fn new(index: u64) -> Self
-        ensures { λ r. ⌜ r ≡ walkStart index ⌝ }
+    pub fn new(passed: u64, index: u64) -> Self
+        ensures { λ r. ⌜ r ≡ walkStart passed index ⌝ }
     {
         Walk {
             reader: Reader::new(),
+            sums: Sums::new(passed),
             end: 0,
             wanted: Wanted::Ahead(index),
         }
     }
 
     // Behind a record that a play's score or none came of.
-    fn behind(self, next: Reader, score: RecordScore) -> Walked
-        ensures { λ r. ⌜ r ≡ walkedBehind self next score ⌝ }
+    fn behind(self, next: Reader, sums: Sums, score: RecordScore) -> Walked
+        ensures { λ r. ⌜ r ≡ walkedBehind self next sums score ⌝ }
     {
         let wanted = self.wanted;
         match score {
             RecordScore::NoPlay => Walked::Next(Walk {
                 reader: next,
+                sums,
                 end: next.at,
                 wanted,
             }),
@@ -92,6 +103,7 @@ impl Walk {
                 },
                 Scored::Score(found) => Walked::Next(Walk {
                     reader: next,
+                    sums,
                     end: self.end,
                     wanted: wanted.after(found),
                 }),
@@ -110,53 +122,99 @@ pub fn score_in(map: &[u8], play: Play) -> Scored
     }
 }
 
-fn score_record(map: &[u8], item: Record) -> RecordScore
-    ensures { λ r. ⌜ r ≡ recordScoreIn (fileOf (now (map .entry))) item ⌝ }
+// The same, from the sums of the first `passed` objects if the play passed as many.
+fn score_at(s: &[u8], walk: Walk, passed: u64, play: Play) -> Scored
+    requires { ⌜ Complete (walk .reader) (walk .sums) × (walk .end ≤ length (now s)) ⌝ }
+    ensures { λ r. ⌜ r ≡ scoredAt (now (s .entry)) walk passed play ⌝ }
+{
+    let objects = walk.reader.counts.objects;
+    let reader = walk.reader;
+    let sums = walk.sums;
+    let end = walk.end;
+    if least(play.passed_objects as u64, objects) == least(passed, objects) {
+        return score_on(play, attributes_of(s, reader, sums));
+    }
+    score_in(&s[..end], play)
+}
+
+fn score_record(s: &[u8], walk: Walk, passed: u64, item: Record) -> RecordScore
+    requires { ⌜ Scorable (walk .reader) (walk .sums) item × (walk .end ≤ length (now s)) ⌝ }
+    ensures { λ r. ⌜ r ≡ recordScoreAt (now (s .entry)) walk passed item ⌝ }
 {
     match item {
-        Record::Play(play) => RecordScore::Play(score_in(map, play)),
+        Record::Play(play) => RecordScore::Play(score_at(s, walk, passed, play)),
         Record::Header(_) => RecordScore::NoPlay,
         Record::Break(_) => RecordScore::NoPlay,
         Record::Object(_) => RecordScore::NoPlay,
     }
 }
 
-pub fn step(s: &[u8], walk: Walk) -> Walked
-    requires { ⌜ walk .end ≤ length (now s) ⌝ }
-    ensures { λ r. ⌜ r ≡ walkedOf (now (s .entry)) walk ⌝ }
+// Reads one record.
+pub fn step(s: &[u8], walk: Walk, passed: u64) -> Walked
+    requires { ⌜ (walk .reader .at < length (now s)) × Reached (now s) passed walk ⌝ }
+    ensures { λ r. ⌜ r ≡ walkedOf (now (s .entry)) passed walk ⌝ }
 {
     let reader = walk.reader;
-    let end = walk.end;
+    let sums = walk.sums;
     match read_record(s, reader) {
         Step::Refused { number, offset } => Walked::Refused { number, offset },
-        Step::Next(item, next) => walk.behind(next, score_record(&s[..end], item)),
+        Step::Next(item, next) => {
+            let score = score_record(s, walk, passed, item);
+            walk.behind(
+                next,
+                sums.with_record(item, reader.counts.objects, passed),
+                score,
+            )
+        }
+    }
+}
+
+// Reads on over the objects that follow an object.
+pub fn run_on(s: &[u8], walk: Walk, passed: u64) -> Walk
+    requires { ⌜ Reached (now s) passed walk ⌝ }
+    ensures { λ r. ⌜ RunOn (now (s .entry)) passed walk r ⌝ }
+{
+    let reader = walk.reader;
+    let sums = walk.sums;
+    let wanted = walk.wanted;
+    if reader.counts.last != 3 {
+        return walk;
+    }
+    let run = skip_objects(s, pass_objects(s, reader, sums, passed), passed);
+    let end = run.reader.at;
+    let behind = run.reader;
+    let added = run.sums;
+    Walk {
+        reader: behind,
+        sums: added,
+        end,
+        wanted,
     }
 }
 
 // Reads a file to its end, each play checked in its place.
-pub fn check_plays(s: &[u8], index: u64) -> Plays
-    ensures { λ r. ⌜ r ≡ playsOf index (scoresOf (fileOf (now (s .entry)))) ⌝ }
+pub fn check_plays(s: &[u8], passed: u64, index: u64) -> Plays
+    ensures { λ r. ⌜ r ≡ playsOf passed index (scoresOf (fileOf (now (s .entry)))) ⌝ }
 {
-    let mut walk = Walk::new(index);
+    let mut walk = Walk::new(passed, index);
     while walk.reader.at < s.len() {
-        match step(s, walk) {
+        match step(s, walk, passed) {
             Walked::Next(next) => {
-                walk = next;
+                walk = run_on(s, next, passed);
             }
             Walked::Refused { number, offset } => {
                 return Plays::Refused { number, offset };
             }
         }
     }
-    if walk.reader.counts.last == 0 {
+    let reader = walk.reader;
+    let sums = walk.sums;
+    let wanted = walk.wanted;
+    if reader.counts.last == 0 {
         return Plays::Refused {
             number: 3,
             offset: 0,
         };
     }
-    let wanted = walk.wanted;
-    Plays::Good {
-        objects: walk.reader.counts.objects,
-        wanted,
-    }
+    Plays::Good(attributes_of(s, reader, sums), wanted)
 }

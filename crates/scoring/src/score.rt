@@ -8,8 +8,6 @@ use crate::plays::Wanted;
 use crate::plays::check_plays;
 use records::play::Play;
 use simulator::attributes::ScoreAttributes;
-use simulator::simulate::Simulated;
-use simulator::simulate::simulate;
 ghost use mathlib.Core.Path.{_≡_};
 ghost use Rattle.records.specs.File.{fileOf};
 ghost use Rattle.scoring.specs.Scores.{scoresOf, mapScoreOf, givenAnswer, givenScore, givenPlayOf, listedPlayOf};
@@ -34,12 +32,9 @@ pub enum ListedPlay {
 pub fn score_map(s: &[u8]) -> MapScore
     ensures { λ r. ⌜ r ≡ mapScoreOf (scoresOf (fileOf (now (s .entry)))) ⌝ }
 {
-    match check_plays(s, 0) {
+    match check_plays(s, u64::MAX, 0) {
         Plays::Refused { number, offset } => MapScore::Refused { number, offset },
-        Plays::Good { objects, wanted: _ } => match simulate(s, objects) {
-            Simulated::Refused { number, offset } => MapScore::Refused { number, offset },
-            Simulated::Map(a) => MapScore::Map(a),
-        },
+        Plays::Good(a, _) => MapScore::Map(a),
     }
 }
 
@@ -64,15 +59,9 @@ fn score_given(play: Play, a: ScoreAttributes) -> GivenPlay
 pub fn score_play(s: &[u8], play: Play) -> GivenPlay
     ensures { λ r. ⌜ r ≡ givenPlayOf play (scoresOf (fileOf (now (s .entry)))) ⌝ }
 {
-    match check_plays(s, 0) {
+    match check_plays(s, play.passed_objects as u64, 0) {
         Plays::Refused { number, offset } => GivenPlay::Refused { number, offset },
-        Plays::Good {
-            objects: _,
-            wanted: _,
-        } => match simulate(s, play.passed_objects as u64) {
-            Simulated::Refused { number, offset } => GivenPlay::Refused { number, offset },
-            Simulated::Map(a) => score_given(play, a),
-        },
+        Plays::Good(a, _) => score_given(play, a),
     }
 }
 
@@ -80,9 +69,9 @@ pub fn score_play(s: &[u8], play: Play) -> GivenPlay
 pub fn score_play_at(s: &[u8], index: u64) -> ListedPlay
     ensures { λ r. ⌜ r ≡ listedPlayOf index (scoresOf (fileOf (now (s .entry)))) ⌝ }
 {
-    match check_plays(s, index) {
+    match check_plays(s, u64::MAX, index) {
         Plays::Refused { number, offset } => ListedPlay::Refused { number, offset },
-        Plays::Good { objects: _, wanted } => match wanted {
+        Plays::Good(_, wanted) => match wanted {
             Wanted::Ahead(_) => ListedPlay::NoPlay,
             Wanted::Is(score) => ListedPlay::Score(score),
         },

@@ -1,8 +1,8 @@
 -- The sums of a map's first p objects, with one more object at its end. Assumes nothing.
-use mathlib.Core.Path.{_≡_, refl, sym, _∙_}
+use mathlib.Core.Path.{_≡_, refl, sym, ap, _∙_}
 use mathlib.Core.Bool.{Bool, true, false}
 use mathlib.Core.List.{List, [], _∷_, _++_}
-use Prim.Native.Nat.{ℕ, zero, suc, _+_, _-_, _≤_, _<_}
+use Prim.Native.Nat.{ℕ, zero, suc, _+_, _-_, _≤_, _<_, min}
 use native.Mathlib.Omega.{arith}
 use borrow.Author.Tests.{ltb-true, ltb-false}
 use lib.Dec.{ltb, eqb·suc-zero}
@@ -12,10 +12,14 @@ use lib.Ieee.{Float}
 use Rattle.numbers.specs.Floats.{whole}
 use Rattle.records.specs.Objects.{Object, objectView}
 use Rattle.records.proofs.Reading.{length-snoc}
-use Rattle.ruleset.specs.Drain.{startOf, lastPlace}
+use Rattle.records.specs.File.{Map}
+use Rattle.records.specs.declared.beatmap.BreakPeriod.{BreakPeriod}
+use Rattle.ruleset.specs.Drain.{startOf, lastPlace, drainAt, drainOf, breaksLength}
+use Rattle.ruleset.specs.Stars.{multiplierAt}
 use Rattle.simulator.specs.Hits.{hitsOf}
 use Rattle.simulator.specs.Walk.{State, fresh, walk, after}
 use Rattle.simulator.specs.Nested.{noObject, counted, countedAll}
+use Rattle.simulator.specs.Attributes.{scoreAttributesAt}
 use Rattle.simulator.specs.Sums.{sumsOf, atFirst, withObject}
 use Rattle.simulator.specs.declared.legacy_score.NestedScorePerObject.{NestedScorePerObject}
 use Rattle.simulator.specs.declared.simulate.Sums.{Sums}
@@ -98,3 +102,30 @@ sums-all p q os h k =
     let b : take q os ≡ os = take-all q os k in
     let last : lastPlace (length os) p ≡ lastPlace (length os) q = omega (arith, h, k) in
     simp (a, b, last)
+
+-- a map has as many passed objects as the smaller of passed and count
+take-passed : (p : ℕ) (os : List Object) → take p os ≡ take (min p (length os)) os
+take-passed p os = go (ltb (length os) p) refl
+  where
+    go : (b : Bool) → ltb (length os) p ≡ b → take p os ≡ take (min p (length os)) os
+    go true e =
+        let h = ltb-true (length os) p e in
+        let least : min p (length os) ≡ length os = omega (arith, h) in
+        take-all p os (omega (arith, h)) ∙ sym (take-all (length os) os (omega arith)) ∙ ap (λ (n : ℕ). take n os) (sym least)
+    go false e =
+        let h = ltb-false (length os) p e in
+        let least : min p (length os) ≡ p = omega (arith, h) in
+        ap (λ (n : ℕ). take n os) (sym least)
+
+drain-passed : (bs : List BreakPeriod) (os : List Object) (p q : ℕ) → min p (length os) ≡ min q (length os) → drainAt bs os p ≡ drainAt bs os q
+unfolding drainAt
+drain-passed bs [] p q e = refl
+drain-passed bs (o ∷ os) p q e =
+    ap (λ (n : ℕ). drainOf (o .start) (startOf (o ∷ os) (n - 1)) (breaksLength (startOf (o ∷ os) (n - 1)) bs)) e
+
+pub attributes-passed : (m : Map) (p q : ℕ) → min p (length (m .objects)) ≡ min q (length (m .objects)) → scoreAttributesAt m p ≡ scoreAttributesAt m q
+unfolding scoreAttributesAt multiplierAt
+attributes-passed m p q e =
+    let os = m .objects in
+    let taken : take p os ≡ take q os = take-passed p os ∙ ap (λ (n : ℕ). take n os) e ∙ sym (take-passed q os) in
+    simp (taken, drain-passed (m .breaks) os p q e)

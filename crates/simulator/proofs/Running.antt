@@ -102,6 +102,11 @@ module _ (s : List ℕ) (p : ℕ) (reader : Reader) (sums : Sums) where
   behind t run k e = subst (λ (r : Reader). Steps s p reader sums r (run .sums)) (sym (e .0)) (subst (Steps s p reader sums (readerIn reader t)) (sym (e .1)) (k .steps))
 
 -- ---- the steps of a run keep what the loop over all records keeps
+-- steps after steps
+pub steps-steps : {s : List ℕ} {p : ℕ} {reader r q : Reader} {sums x y : Sums} → Steps s p reader sums r x → Steps s p r x q y → Steps s p reader sums q y
+steps-steps a none = a
+steps-steps a (more steps h e) = more (steps-steps a steps) h e
+
 pub summing-steps : {s : List ℕ} {p : ℕ} {reader r : Reader} {sums x : Sums} → Summing s p reader sums → Steps s p reader sums r x → Summing s p r x × (reader .at ≤ r .at)
 summing-steps k none = (k, omega arith)
 summing-steps k (more {r = r} {next = next} {o = o} steps h e) =

@@ -21,7 +21,7 @@ use Rattle.records.specs.declared.file.Step.the-variants as step
 use Rattle.records.specs.declared.record.Record.{Record}
 use Rattle.records.proofs.All.{All, that, all-bind, all-any, all-when, all-pick, all-map, all-out}
 use Rattle.encoding.proofs.Accepted.{object-within, accepted-within}
-use Rattle.records.proofs.Reading.{Chain, start, longer, Kept, Moved, Seen, seen, all-read, kept-start, kept-step, kept-stop, length-snoc}
+use Rattle.records.proofs.Reading.{Chain, start, longer, chain-file, Kept, Moved, Seen, seen, all-read, kept-start, kept-step, kept-stop, length-snoc}
 use Rattle.records.proofs.Room.{record-fits}
 use Rattle.ruleset.specs.Drain.{startOf, lastPlace, drainAt, drainOf, breaksLength, breaksIn}
 use Rattle.ruleset.specs.Stars.{multiplierOf, multiplierAt}
@@ -31,7 +31,7 @@ use Rattle.simulator.specs.Walk.{State, fresh, walk, after}
 use Rattle.simulator.specs.Nested.{noObject, counted, countedAll}
 use Rattle.simulator.specs.Attributes.{scoreAttributesOf, scoreAttributesAt}
 use Rattle.simulator.specs.Limits.{Within, Counted, nestedCount, Room}
-use Rattle.simulator.specs.Sums.{sumsOf, withObject, withRecord, drainIn, multiplierIn, attributesIn, simulatedOf}
+use Rattle.simulator.specs.Sums.{sumsOf, withObject, withRecord, drainIn, multiplierIn, attributesIn, simulatedOf, Complete}
 use Rattle.simulator.specs.View.{times}
 use Rattle.simulator.specs.declared.legacy_score.NestedScorePerObject.{NestedScorePerObject}
 use Rattle.simulator.specs.declared.simulate.Sums.{Sums}
@@ -228,71 +228,75 @@ drain-of s p (o ∷ os) bs e =
     let last = startOf (o ∷ os) (lastPlace (length (o ∷ os)) p) in
     rw (eqb·suc-zero (length os)) (ap (λ (l : List BreakPeriod). drainOf (o .start) last (breaksLength last l)) e)
 
-module _ {s : List ℕ} {p : ℕ} {reader : Reader} {sums : Sums} (k : Summing s p reader sums) (h : length s ≤ reader .at) where
+-- the attributes that the sums give are those of the map, which is within its limits
+module _ {s : List ℕ} {p : ℕ} {reader : Reader} {sums : Sums} (k : Summing s p reader sums) (limits : MapWithin (k .file .map)) where
   abbrev g : File
   g = k .file
 
   abbrev sees : Seen g reader
   sees = seen g (k .kept .viewed)
 
+  pub complete : Complete reader sums
+  unfolding sumsOf
+  complete = (
+    subst SettingsWithin (sym (sees .settings)) (limits .settings),
+    omega (arith, sees .breaks, limits .few-breaks),
+    subst (λ (x : Sums). Within 8192 (x .score)) (sym (k .same)) (passed-within p 8192 (g .map .objects) (k .count) (omega arith) (k .few)),
+    subst (λ (x : Sums). Counted 8192 (x .nested)) (sym (k .same)) (passed-counted p 8192 (g .map .objects) (k .count) (omega arith) (k .few)),
+  )
+
+  drain-is : drainIn s (reader .counts .breaks) (reader .counts .objects) sums ≡ drainAt (g .map .breaks) (g .map .objects) p
+  drain-is =
+      ap (λ (n : ℕ). drainIn s n (reader .counts .objects) sums) (sees .breaks)
+      ∙ ap (λ (n : ℕ). drainIn s (length (g .map .breaks)) n sums) (sees .objects)
+      ∙ ap (drainIn s (length (g .map .breaks)) (length (g .map .objects))) (k .same)
+      ∙ drain-of s p (g .map .objects) (g .map .breaks) (k .standing .same)
+
+  objects-is : sums .nested .«object_count» ≡ length (take p (g .map .objects))
+  unfolding sumsOf
+  objects-is = ap (λ (x : Sums). x .nested .«object_count») (k .same) ∙ count-is noObject (take p (g .map .objects)) ∙ omega arith
+
+  multiplier-is : multiplierIn s reader sums ≡ multiplierAt (g .map) p
+  unfolding multiplierAt
+  multiplier-is = simp (sees .settings, objects-is, drain-is)
+
+  pub attributes-are : attributesIn s reader sums ≡ scoreAttributesAt (g .map) p
+  unfolding sumsOf scoreAttributesAt
+  attributes-are =
+      let m = multiplierIn s reader sums in
+      let os = take p (g .map .objects) in
+      let walked : times m (after 1 fresh os) ≡ after m fresh os = sym (ap (λ (st : State). after m st os) (fresh-times m) ∙ after-times m fresh os) in
+      ap (λ (x : Sums). scoreAttributesOf (times m (x .score)) (x .nested) m) (k .same)
+      ∙ ap (λ (st : State). scoreAttributesOf st (countedAll noObject os) m) walked
+      ∙ ap (λ (n : ℕ). scoreAttributesOf (after n fresh os) (countedAll noObject os) n) multiplier-is
+
+module _ {s : List ℕ} {p : ℕ} {reader : Reader} {sums : Sums} (k : Summing s p reader sums) (h : length s ≤ reader .at) where
+  abbrev whole : fileOf s ≡ ended (k .file)
+  whole = all-read s (k .file) reader (k .kept) h
+
   pub end-none : reader .counts .last ≡ 0 → simulated.Refused 3 0 ≡ simulatedOf (fileOf s) p
-  end-none e = rw (all-read s g reader (k .kept) h) (simp (eq-eqb (g .last) 0 (sym (sees .last) ∙ e)))
+  end-none e = rw whole (simp (eq-eqb (k .file .last) 0 (sym (seen (k .file) (k .kept .viewed) .last) ∙ e)))
 
   module _ (e : reader .counts .last ≡ 0 → ⊥) where
-    file-is : fileOf s ≡ accepted g
-    file-is = all-read s g reader (k .kept) h ∙ simp (ne-eqb (g .last) 0 (λ z. e (sees .last ∙ z)))
+    file-is : fileOf s ≡ accepted (k .file)
+    file-is = whole ∙ simp (ne-eqb (k .file .last) 0 (λ z. e (seen (k .file) (k .kept .viewed) .last ∙ z)))
 
-    limits : MapWithin (g .map)
-    limits = accepted-within s g file-is
+    limits : MapWithin (k .file .map)
+    limits = accepted-within s (k .file) file-is
 
-    pub end-settings : SettingsWithin (reader .settings)
-    end-settings = subst SettingsWithin (sym (sees .settings)) (limits .settings)
+    pub end-complete : Complete reader sums
+    end-complete = complete k limits
 
-    pub end-breaks : reader .counts .breaks ≤ 128
-    end-breaks = omega (arith, sees .breaks, limits .few-breaks)
-
-    pub end-within : Within 8192 (sums .score)
-    unfolding sumsOf
-    end-within = subst (λ (x : Sums). Within 8192 (x .score)) (sym (k .same)) (passed-within p 8192 (g .map .objects) (k .count) (omega arith) (k .few))
-
-    pub end-counted : Counted 8192 (sums .nested)
-    unfolding sumsOf
-    end-counted = subst (λ (x : Sums). Counted 8192 (x .nested)) (sym (k .same)) (passed-counted p 8192 (g .map .objects) (k .count) (omega arith) (k .few))
-
-    drain-is : drainIn s (reader .counts .breaks) (reader .counts .objects) sums ≡ drainAt (g .map .breaks) (g .map .objects) p
-    drain-is =
-        ap (λ (n : ℕ). drainIn s n (reader .counts .objects) sums) (sees .breaks)
-        ∙ ap (λ (n : ℕ). drainIn s (length (g .map .breaks)) n sums) (sees .objects)
-        ∙ ap (drainIn s (length (g .map .breaks)) (length (g .map .objects))) (k .same)
-        ∙ drain-of s p (g .map .objects) (g .map .breaks) (k .standing .same)
-
-    objects-is : sums .nested .«object_count» ≡ length (take p (g .map .objects))
-    unfolding sumsOf
-    objects-is = ap (λ (x : Sums). x .nested .«object_count») (k .same) ∙ count-is noObject (take p (g .map .objects)) ∙ omega arith
-
-    multiplier-is : multiplierIn s reader sums ≡ multiplierAt (g .map) p
-    unfolding multiplierAt
-    multiplier-is = simp (sees .settings, objects-is, drain-is)
-
-    -- the attributes from the sums are those of the map
     pub end-map : simulated.Map (attributesIn s reader sums) ≡ simulatedOf (fileOf s) p
-    unfolding sumsOf scoreAttributesAt
-    end-map =
-        let m = multiplierIn s reader sums in
-        let os = take p (g .map .objects) in
-        let walked : times m (after 1 fresh os) ≡ after m fresh os = sym (ap (λ (st : State). after m st os) (fresh-times m) ∙ after-times m fresh os) in
-        rw file-is
-        (ap (λ (x : Sums). simulated.Map (scoreAttributesOf (times m (x .score)) (x .nested) m)) (k .same)
-        ∙ ap (λ (st : State). simulated.Map (scoreAttributesOf st (countedAll noObject os) m)) walked
-        ∙ ap (λ (n : ℕ). simulated.Map (scoreAttributesOf (after n fresh os) (countedAll noObject os) n)) multiplier-is)
+    end-map = rw file-is (ap simulated.Map (attributes-are k limits))
 
 -- ---- any file that was read so far has these sums
-record Facts (s : List ℕ) (f : File) : Type 0 where
-  standing : Standing s f
-  few : Each Few (f .map .objects)
-  count : length (f .map .objects) ≤ 8192
+pub record Facts (s : List ℕ) (f : File) : Type 0 where
+  pub standing : Standing s f
+  pub few : Each Few (f .map .objects)
+  pub count : length (f .map .objects) ≤ 8192
 
-facts : (s : List ℕ) (f : File) → Chain s f → Facts s f
+pub facts : (s : List ℕ) (f : File) → Chain s f → Facts s f
 facts s f start = record { standing = standing-start s; few = none; count = omega arith }
 facts s f (longer {f = g} {r = r} c h e) =
     let before = facts s g c in
@@ -301,6 +305,10 @@ facts s f (longer {f = g} {r = r} c h e) =
     let w = objects-with g (r .0) (r .1) found fits (before .few) (before .count) in
     record { standing = standing-step s g r e (before .standing); few = w .0; count = w .1 }
 
-pub kept-summing : (s : List ℕ) (p : ℕ) (f : File) (reader : Reader) → Kept s f reader → Summing s p reader (sumsOf p (f .map .objects))
-kept-summing s p f reader k =
-    let w = facts s f (k .chain) in record { file = f; kept = k; standing = w .standing; few = w .few; count = w .count; same = refl }
+abbrev pub kept-summing : (s : List ℕ) (p : ℕ) (f : File) (reader : Reader) (sums : Sums) → Kept s f reader → sums ≡ sumsOf p (f .map .objects) → Summing s p reader sums
+kept-summing s p f reader sums k e =
+    let w = facts s f (k .chain) in record { file = f; kept = k; standing = w .standing; few = w .few; count = w .count; same = e }
+
+-- at any record behind the header
+pub kept-limits : (s : List ℕ) (f : File) (reader : Reader) → Kept s f reader → 0 < f .last → MapWithin (f .map)
+kept-limits s f reader k h = accepted-within (take (f .at) s) f (chain-file s f (k .chain) h)

@@ -1,14 +1,12 @@
 -- The map's line is put, then the loop keeps the lines of the plays read so far behind it.
 use Prim.Native.Nat.{_-_, _<_}
 use native.Mathlib.Omega.{arith}
-use mathlib.Core.Path.{sym}
 use denote.Ref.{now}
 use borrow.Author.Needs.{needs}
 use lib.ListN.{length}
 use Rattle.lines.specs.Lines.{mapLine}
 use Rattle.records.proofs.Laws.{so}
-use Rattle.scoring.proofs.Playing.{played-inside}
-use Rattle.listing.proofs.Writing.{Writing, writing-start, writing-ahead, writing-step, writing-stop, writing-done, writing-length}
+use Rattle.listing.proofs.Writing.{Writing, writing-start, writing-ahead, writing-step, writing-on, writing-stop, writing-done, writing-length}
 use Rattle.listing.proofs.put_lines.Statement.{statement}
 use Rattle.listing.proofs.put_lines.Tie as tie
 
@@ -28,7 +26,7 @@ loop-holds : tie.Need-loop-holds Inv-loop μ-loop
 loop-holds c = rw (c .new .ensures) (writing-start (now (c .before .before .before .before .before .before .before .args .s)) _ _)
 
 step-requires : tie.Need-step-requires Inv-loop μ-loop
-step-requires c κs = played-inside (c .before .before .loop .inv .played)
+step-requires c κs = (c .if1 .taken, c .before .before .loop .inv .played .reached)
 
 enum-told : tie.Need-enum-told Inv-loop μ-loop
 enum-told c = search needs
@@ -63,22 +61,38 @@ index-after-requires c κs =
     let room : length (now (at3 .args .s)) < 18446744073709551616 = at3 .good .0 .0 in
     omega (arith, f, h, room)
 
+run-on-requires : tie.Need-run-on-requires Inv-loop μ-loop
+run-on-requires c κs =
+    let at1 = c .before .before in
+    let at2 = at1 .before .before .before in
+    let at3 = at2 .before .before .before in
+    let at4 = at3 .before .before in
+    let at5 = at4 .before in
+    let at6 = at5 .before .before in
+    writing-step (at6 .loop .inv) (at5 .if1 .taken) _ (so (at3 .next .given .1) (at4 .step .ensures)) _ _ _ (at2 .put-wanted .ensures) (at1 .index-after .ensures) .played .reached
+
 loop-less : tie.Need-loop-less Inv-loop μ-loop
 loop-less c =
-    let at1 = c .before .before .before .before .before .before .before in
-    let at2 = at1 .before .before in
-    let at3 = at2 .before in
+    let at1 = c .before .before .before in
+    let at2 = at1 .before .before .before in
+    let at3 = at2 .before .before .before in
     let at4 = at3 .before .before in
-    let a = writing-ahead (at4 .loop .inv) (at3 .if1 .taken) _ (so (at1 .next .given .1) (at2 .step .ensures)) in let h = at3 .if1 .taken in omega (arith, a, h)
+    let at5 = at4 .before in
+    let at6 = at5 .before .before in
+    let h = at5 .if1 .taken in
+    let a = writing-ahead (at6 .loop .inv) h _ (so (at3 .next .given .1) (at4 .step .ensures)) in
+    let b = writing-on (writing-step (at6 .loop .inv) (at5 .if1 .taken) _ (so (at3 .next .given .1) (at4 .step .ensures)) _ _ _ (at2 .put-wanted .ensures) (at1 .index-after .ensures)) _ (c .run-on .ensures) .0 in
+    omega (arith, a, b, h)
 
 loop-again : tie.Need-loop-again Inv-loop μ-loop
 loop-again c =
-    let at1 = c .before .before .before .before in
+    let at1 = c .before .before .before in
     let at2 = at1 .before .before .before in
-    let at3 = at2 .before .before in
-    let at4 = at3 .before in
-    let at5 = at4 .before .before in
-    writing-step (at5 .loop .inv) (at4 .if1 .taken) _ (so (at2 .next .given .1) (at3 .step .ensures)) _ _ _ (at1 .put-wanted .ensures) (c .before .index-after .ensures)
+    let at3 = at2 .before .before .before in
+    let at4 = at3 .before .before in
+    let at5 = at4 .before in
+    let at6 = at5 .before .before in
+    writing-on (writing-step (at6 .loop .inv) (at5 .if1 .taken) _ (so (at3 .next .given .1) (at4 .step .ensures)) _ _ _ (at2 .put-wanted .ensures) (at1 .index-after .ensures)) _ (c .run-on .ensures) .1
 
 same-length-2 : tie.Need-same-length-2 Inv-loop μ-loop
 same-length-2 c = writing-length (c .before .before .loop .inv) _ _ (c .before .before .before .before .before .before .put-map-line .ensures)
@@ -106,6 +120,7 @@ put-lines-spec =
     enum-known-next
     put-wanted-requires
     index-after-requires
+    run-on-requires
     loop-less
     loop-again
     same-length-2

@@ -1,4 +1,7 @@
 -- A play's score is the only one.
+use mathlib.Core.Path.{subst}
+use Rattle.records.specs.declared.record.Record.{Record}
+use Rattle.scoring.specs.Reached.{Scorable}
 use borrow.Author.Needs.{needs}
 use Rattle.scoring.proofs.plays.score_record.Statement.{statement}
 use Rattle.scoring.proofs.plays.score_record.Tie as tie
@@ -6,8 +9,10 @@ use Rattle.scoring.proofs.plays.score_record.Tie as tie
 enum-known-item : tie.Need-enum-known-item
 enum-known-item c = search needs
 
-score-in-requires : tie.Need-score-in-requires
-score-in-requires c κs = search needs
+score-at-requires : tie.Need-score-at-requires
+score-at-requires c κs =
+    let at1 = c .before .before .before .before in
+    (subst (λ (x : Record). Scorable (at1 .args .walk .reader) (at1 .args .walk .sums) x) (c .before .item .given .1) (at1 .pre .0), at1 .pre .1)
 
 enum-told : tie.Need-enum-told
 enum-told c = search needs
@@ -19,7 +24,7 @@ enum-told-3 : tie.Need-enum-told-3
 enum-told-3 c = search needs
 
 returns : tie.Need-returns
-returns c = simp (c .before .before .item .given .1, c .score-in .ensures)
+returns c = simp (c .before .before .item .given .1, c .score-at .ensures)
 
 returns-2 : tie.Need-returns-2
 returns-2 c = simp (c .enum-told .given .1)
@@ -35,7 +40,7 @@ score-record-spec =
     tie.close
     (tie.spec
     enum-known-item
-    score-in-requires
+    score-at-requires
     enum-told
     enum-told-2
     enum-told-3

@@ -1,7 +1,6 @@
--- One record is read, and its play scored on the map before it.
+-- One record is read, its play scored and its object added to the sums.
 use Rattle.records.proofs.Laws.{so}
-use lib.Seq.{length-take-le}
-use mathlib.Core.Path.{sym}
+use Rattle.scoring.proofs.Playing.{reached-inside, reached-scorable, reached-room}
 use borrow.Author.Needs.{needs}
 use Rattle.scoring.proofs.plays.step.Statement.{statement}
 use Rattle.scoring.proofs.plays.step.Tie as tie
@@ -15,11 +14,18 @@ enum-known-number c = search needs
 enum-known-item : tie.Need-enum-known-item
 enum-known-item c = search needs
 
-slice-aggregate-score-record : tie.Need-slice-aggregate-score-record
-slice-aggregate-score-record c = sym (length-take-le _ _ (c .before .before .before .before .before .before .before .pre))
-
 score-record-requires : tie.Need-score-record-requires
-score-record-requires c κs = search needs
+score-record-requires c κs =
+    let at1 = c .before .before .before in
+    let at2 = at1 .before .before .before .before in
+    (reached-scorable (at2 .pre .1) (at2 .pre .0) _ _ (so (c .before .item .given .1) (at1 .read-record .ensures)), reached-inside (at2 .pre .1))
+
+with-record-requires : tie.Need-with-record-requires
+with-record-requires c κs =
+    let at1 = c .before .before in
+    let at2 = at1 .before .before in
+    let at3 = at2 .before .before .before .before in
+    reached-room (at3 .pre .1) (at3 .pre .0) _ _ (so (at1 .item .given .1) (at2 .read-record .ensures))
 
 behind-requires : tie.Need-behind-requires
 behind-requires c κs = search needs
@@ -29,9 +35,10 @@ returns c = simp (so (c .before .before .before .read-record .ensures) (c .befor
 
 returns-2 : tie.Need-returns-2
 returns-2 c =
-    let at1 = c .before .before .before .before in
+    let at1 = c .before .before in
     let at2 = at1 .before .before in
-    simp (so (at2 .read-record .ensures) (at1 .item .given .1), c .behind .ensures, c .before .score-record .ensures)
+    let at3 = at2 .before .before in
+    simp (so (at3 .read-record .ensures) (at2 .item .given .1), c .behind .ensures, at1 .score-record .ensures, c .before .with-record .ensures)
 
 pub step-spec : {M : Type 1} → statement M
 step-spec =
@@ -40,8 +47,8 @@ step-spec =
     read-record-requires
     enum-known-number
     enum-known-item
-    slice-aggregate-score-record
     score-record-requires
+    with-record-requires
     behind-requires
     returns
     returns-2)

@@ -27,21 +27,21 @@ returns : tie.Need-returns
 returns c =
     let at1 = c .before .before .before in
     let at2 = at1 .before .before in
-    listed-refused (at2 .args .index) (scoresOf (fileOf (now (at2 .args .s)))) _ _ (so (c .before .number .given .1) (at1 .check-plays .ensures))
+    listed-refused 18446744073709551615 (at2 .args .index) (scoresOf (fileOf (now (at2 .args .s)))) _ _ (so (c .before .number .given .1) (at1 .check-plays .ensures))
 
 returns-2 : tie.Need-returns-2
 returns-2 c =
     let at1 = c .before .before .before in
     let at2 = at1 .before .before in
     let at3 = at2 .before .before in
-    listed-none (at3 .args .index) (fileOf (now (at3 .args .s))) _ _ (so (at1 .wanted .given .1) (at2 .check-plays .ensures)) _ (c .enum-told .given .1)
+    listed-none 18446744073709551615 (at3 .args .index) (scoresOf (fileOf (now (at3 .args .s)))) _ _ (so (at1 .wanted .given .1) (at2 .check-plays .ensures)) _ (c .enum-told .given .1)
 
 returns-3 : tie.Need-returns-3
 returns-3 c =
     let at1 = c .before .before .before .before in
     let at2 = at1 .before .before in
     let at3 = at2 .before .before in
-    listed-scored (at3 .args .index) (fileOf (now (at3 .args .s))) _ _ (so (at1 .wanted .given .1) (at2 .check-plays .ensures)) _ (c .before .wanted2 .given .1)
+    listed-scored 18446744073709551615 (at3 .args .index) (scoresOf (fileOf (now (at3 .args .s)))) _ _ (so (at1 .wanted .given .1) (at2 .check-plays .ensures)) _ (c .before .wanted2 .given .1)
 
 pub score-play-at-spec : {M : Type 1} → statement M
 score-play-at-spec =

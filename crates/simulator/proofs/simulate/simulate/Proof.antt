@@ -7,7 +7,7 @@ use borrow.Author.Needs.{needs}
 use lib.ListN.{length}
 use Rattle.records.proofs.Laws.{so}
 use Rattle.simulator.specs.declared.simulate.Simulated.the-variants.{Map}
-use Rattle.simulator.proofs.Summing.{Summing, summing-start, summing-room, summing-step, summing-ahead, summing-stop, end-none, end-settings, end-breaks, end-within, end-counted, end-map}
+use Rattle.simulator.proofs.Summing.{Summing, summing-start, summing-room, summing-step, summing-ahead, summing-stop, end-none, end-complete, end-map}
 use Rattle.simulator.proofs.Running.{summing-steps, summing-ready}
 use Rattle.simulator.proofs.simulate.simulate.Statement.{statement}
 use Rattle.simulator.proofs.simulate.simulate.Tie as tie
@@ -113,7 +113,7 @@ attributes-of-requires c κs =
     let loop = c .before .before .before .before .loop in
     let h = c .before .before .if1 .left in
     let e = c .if2 .left in
-    (end-settings (loop .inv) h e, end-breaks (loop .inv) h e, end-within (loop .inv) h e, end-counted (loop .inv) h e)
+    end-complete (loop .inv) h e
 
 returns-3 : tie.Need-returns-3 Inv-loop μ-loop
 returns-3 c =

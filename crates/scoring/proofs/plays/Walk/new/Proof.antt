@@ -1,4 +1,4 @@
--- It starts with a fresh reader.
+-- It starts with a fresh reader and empty sums.
 use borrow.Author.Needs.{needs}
 use Rattle.scoring.proofs.plays.Walk.new.Statement.{statement}
 use Rattle.scoring.proofs.plays.Walk.new.Tie as tie
@@ -6,8 +6,11 @@ use Rattle.scoring.proofs.plays.Walk.new.Tie as tie
 new-requires : tie.Need-new-requires
 new-requires c κs = search needs
 
+new-requires-2 : tie.Need-new-requires-2
+new-requires-2 c κs = search needs
+
 returns : tie.Need-returns
-returns c = rw (c .new .ensures)
+returns c = rw (c .before .new .ensures, c .new2 .ensures)
 
 pub new-spec : {M : Type 1} → statement M
-new-spec = tie.close (tie.spec new-requires returns)
+new-spec = tie.close (tie.spec new-requires new-requires-2 returns)

@@ -7,7 +7,7 @@ use std::{hint::black_box, time::Instant};
 use oracle::{
     encode::encode,
     generate::mixed::mixed_map,
-    values::{Attributes, Original},
+    values::{Estimates, Original},
 };
 use proved::Values;
 
@@ -26,15 +26,17 @@ fn row(size: usize) {
     let file = encode(&map);
     let play = &map.plays[0];
     let original = Original::new(&map);
-    let ours = proved::simulate(&file, play.passed.into());
-    assert_eq!(ours, values_of(&original.attributes(play.passed.into())));
+    assert_eq!(
+        proved::score_play_at(&file, 0),
+        values_of(size, &original.estimates(play))
+    );
 
     // In turns, so that both sides meet the same load.
     let calls = 100_000 / size + 1;
     let mut times = [Vec::new(), Vec::new()];
     for _ in 0..SAMPLES {
         times[0].push(time(calls, || {
-            black_box(proved::simulate(black_box(&file), play.passed.into()));
+            black_box(proved::score_play_at(black_box(&file), 0));
         }));
         times[1].push(time(calls, || {
             black_box(original.estimates(black_box(play)));
@@ -59,23 +61,15 @@ fn median(mut samples: Vec<f64>) -> f64 {
     samples[samples.len() / 2]
 }
 
-fn values_of(a: &Attributes) -> Values {
+fn values_of(size: usize, e: &Estimates) -> Values {
     Values {
         status: 0,
+        has_score_based: e.score_based.is_some().into(),
         offset: 0,
-        object_count: a.objects.into(),
-        multiplier: a.multiplier as u64,
-        accuracy_score: a.accuracy_score as u64,
-        combo_score: a.combo_score as u64,
-        legacy_bonus: a.legacy_bonus as u64,
-        standardised_bonus: a.standardised_bonus as u64,
-        max_combo: a.max_combo.into(),
-        bonus_ratio: a.bonus_ratio,
-        nested_per_object: a.nested_per_object,
-        circles: a.circles,
-        sliders: a.sliders,
-        spinners: a.spinners,
-        repeats: a.repeats,
-        ticks: a.ticks,
+        object_count: size as u64,
+        accuracy: e.accuracy,
+        combo_based: e.combo_based,
+        score_based: e.score_based.unwrap_or(0.0),
+        effective: e.effective,
     }
 }

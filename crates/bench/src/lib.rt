@@ -1,52 +1,57 @@
 // What the benchmark calls: numbers, slices and #[repr(C)] structs by value only.
-use simulator::attributes::ScoreAttributes;
-use simulator::simulate::Simulated;
+use estimates::calculator::Estimates;
+use estimates::legacy_score_miss_calc::MissCount;
+use scoring::score::ListedPlay;
+use scoring::score::score_play_at;
 ghost use mathlib.Core.Path.{_≡_};
 ghost use Rattle.records.specs.File.{fileOf};
-ghost use Rattle.simulator.specs.Sums.{simulatedOf};
-ghost use Rattle.bench.specs.Crossing.{valuesOf, refusedValues, valuesIn};
+ghost use Rattle.scoring.specs.Scores.{scoresOf, listedPlayOf};
+ghost use Rattle.bench.specs.Crossing.{isScoreBased, scoreBased, valuesIn, refusedValues, valuesOf};
 
-// The score attributes of a file's first objects. The status is 0, or the number of the refusal at the offset, with no value.
+// The score of a play. The status is 0, or the number of the refusal at the offset, or 255 where there is no such play, with no value.
 #[repr(C)]
 pub struct Values {
     pub status: u8,
+    pub has_score_based: u8,
     pub offset: usize,
     pub object_count: u64,
-    pub multiplier: u64,
-    pub accuracy_score: u64,
-    pub combo_score: u64,
-    pub legacy_bonus: u64,
-    pub standardised_bonus: u64,
-    pub max_combo: u64,
-    pub bonus_ratio: f64,
-    pub nested_per_object: f64,
-    pub circles: u32,
-    pub sliders: u32,
-    pub spinners: u32,
-    pub repeats: u32,
-    pub ticks: u32,
+    pub accuracy: f64,
+    pub combo_based: f64,
+    pub score_based: f64,
+    pub effective: f64,
 }
 
-fn values_in(a: ScoreAttributes) -> Values
-    ensures { λ r. ⌜ r ≡ valuesIn a ⌝ }
+fn has_score_based(m: MissCount) -> u8
+    ensures { λ r. ⌜ r ≡ isScoreBased m ⌝ }
 {
+    match m {
+        MissCount::Absent => 0,
+        MissCount::Is(_) => 1,
+    }
+}
+
+fn score_based(m: MissCount) -> f64
+    ensures { λ r. ⌜ r ≡ scoreBased m ⌝ }
+{
+    match m {
+        MissCount::Absent => 0.0,
+        MissCount::Is(x) => x,
+    }
+}
+
+fn values_in(object_count: u64, e: Estimates) -> Values
+    ensures { λ r. ⌜ r ≡ valuesIn «object_count» e ⌝ }
+{
+    let misses = e.score_based;
     Values {
         status: 0,
+        has_score_based: has_score_based(misses),
         offset: 0,
-        object_count: a.object_count,
-        multiplier: a.multiplier,
-        accuracy_score: a.legacy.accuracy_score,
-        combo_score: a.legacy.combo_score,
-        legacy_bonus: a.legacy.bonus_score.0,
-        standardised_bonus: a.standardised_bonus_score.0,
-        max_combo: a.legacy.max_combo,
-        bonus_ratio: a.legacy.bonus_score_ratio,
-        nested_per_object: a.difficulty.nested_score_per_object,
-        circles: a.difficulty.n_circles,
-        sliders: a.difficulty.n_sliders,
-        spinners: a.difficulty.n_spinners,
-        repeats: a.difficulty.n_repeats,
-        ticks: a.difficulty.n_ticks,
+        object_count,
+        accuracy: e.accuracy,
+        combo_based: e.combo_based,
+        score_based: score_based(misses),
+        effective: e.effective,
     }
 }
 
@@ -55,36 +60,32 @@ fn refused(number: u8, offset: usize) -> Values
 {
     Values {
         status: number,
+        has_score_based: 0,
         offset,
         object_count: 0,
-        multiplier: 0,
-        accuracy_score: 0,
-        combo_score: 0,
-        legacy_bonus: 0,
-        standardised_bonus: 0,
-        max_combo: 0,
-        bonus_ratio: 0.0,
-        nested_per_object: 0.0,
-        circles: 0,
-        sliders: 0,
-        spinners: 0,
-        repeats: 0,
-        ticks: 0,
+        accuracy: 0.0,
+        combo_based: 0.0,
+        score_based: 0.0,
+        effective: 0.0,
     }
 }
 
-fn values_of(simulated: Simulated) -> Values
-    ensures { λ r. ⌜ r ≡ valuesOf simulated ⌝ }
+fn values_of(play: ListedPlay) -> Values
+    ensures { λ r. ⌜ r ≡ valuesOf play ⌝ }
 {
-    match simulated {
-        Simulated::Map(a) => values_in(a),
-        Simulated::Refused { number, offset } => refused(number, offset),
+    match play {
+        ListedPlay::Score(score) => {
+            let estimates = score.estimates;
+            values_in(score.attributes.object_count, estimates)
+        }
+        ListedPlay::NoPlay => refused(255, 0),
+        ListedPlay::Refused { number, offset } => refused(number, offset),
     }
 }
 
 #[no_mangle]
-pub extern "C" fn bench_simulate(s: &[u8], passed: u64) -> Values
-    ensures { λ r. ⌜ r ≡ valuesOf (simulatedOf (fileOf (now (s .entry))) passed) ⌝ }
+pub extern "C" fn bench_score_play_at(s: &[u8], index: u64) -> Values
+    ensures { λ r. ⌜ r ≡ valuesOf (listedPlayOf index (scoresOf (fileOf (now (s .entry))))) ⌝ }
 {
-    values_of(simulator::simulate::simulate(s, passed))
+    values_of(score_play_at(s, index))
 }

@@ -6,6 +6,7 @@ mod bench;
 mod example;
 mod generate;
 mod list;
+mod replay;
 mod serve;
 mod spinner;
 mod table;
@@ -33,7 +34,9 @@ pub fn run(arguments: &[String]) -> Result<(), String> {
         ["spinner-files"] => spinner::files(),
         ["gen", seed, count, to] => generate::good(number(seed)?, number(count)?, to),
         ["gen-damaged", seed, count, to] => generate::damaged(number(seed)?, number(count)?, to),
-        ["answers", seed, count, path] => answers::write(number(seed)?, number(count)?, path),
+        ["replay-rows", table, seed, count, path] => {
+            replay::write(table, number(seed)?, number(count)?, path)
+        }
         ["pack", table, packed, kinds @ ..] => table::pack(table, packed, kinds),
         ["check-refusals", table] => table::check(table),
         ["example"] => write_out(&worked_example()),

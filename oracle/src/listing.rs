@@ -63,7 +63,8 @@ pub fn float(value: f64) -> String {
     }
 }
 
-fn refusal_line(refusal: &Refusal) -> String {
+/// The only line of a refused input.
+pub fn refusal_line(refusal: &Refusal) -> String {
     format!("refused {} at {}\n", refusal.number, refusal.offset)
 }
 

@@ -101,5 +101,9 @@ fn damaged_files_meet_each_refusal() {
 #[test]
 fn the_fixed_list_stays_small() {
     let list = answers(1, 1_200).expect("accepted files");
-    assert!(list.len() < 4_000_000, "{}", list.len());
+    let size: usize = list
+        .iter()
+        .map(|(file, text)| file.len() + text.len())
+        .sum();
+    assert!(size < 4_000_000, "{size}");
 }

@@ -38,7 +38,7 @@ fn bad_calls_end_with_status_2_and_one_line() {
         (&["gen", "1", "many", "-"], b""),
         (&["gen", "1", "-2", "-"], b""),
         (&["gen-damaged", "x", "2", "-"], b""),
-        (&["answers", "1", "1", "/nowhere/answers.bin"], b""),
+        (&["replay-rows", "/nowhere/table.txt", "1", "1", "-"], b""),
         (&["attrs", "one"], b""),
         (&["serve"], b"\x01\x00"),
         (&["serve"], b"\xff\xff\xff\xffMH"),

@@ -1,5 +1,6 @@
-// Reading standard input piece by piece, for the programs that replay stored or generated files.
+// The ends of a lent space that the programs meet: its front read from standard input or printed, and two texts held against each other.
 use libc::STDIN_FILENO;
+use libc::STDOUT_FILENO;
 
 // Reads the next bytes of the input to the front of the space, and says whether all are there.
 pub fn read_front(space: &mut [u8], length: usize) -> bool {
@@ -7,4 +8,27 @@ pub fn read_front(space: &mut [u8], length: usize) -> bool {
         return false;
     }
     io::read_full(STDIN_FILENO, &mut space[..length]) == length
+}
+
+// Prints the first bytes of the space, and says whether they are written.
+pub fn print_front(space: &[u8], count: usize) -> bool {
+    if space.len() < count {
+        return false;
+    }
+    io::write_all(STDOUT_FILENO, &space[..count])
+}
+
+// Whether the text starts with these bytes.
+pub fn starts_with(text: &[u8], front: &[u8]) -> bool {
+    if text.len() < front.len() {
+        return false;
+    }
+    let mut i = 0;
+    while i < front.len() {
+        if text[i] != front[i] {
+            return false;
+        }
+        i += 1;
+    }
+    true
 }

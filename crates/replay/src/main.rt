@@ -1,152 +1,206 @@
-// Replays the table of refusals on the reader: each row of its input is the kind of the call (0 the program's input, 1 a file of the
-// library), the number and offset that document 01 gives, and the file.
+// Replays stored answers on the listing. A row of the input is its kind (0 the program's input and 1 a file, both of the table of refusals; 2 an
+// accepted file with the Rust's listing), the text that is due and the file, each behind its length, a u32.
 use libc::STDIN_FILENO;
 use libc::STDOUT_FILENO;
+use listing::Listed;
+use listing::list_file;
+use listing::list_input;
 use numbers::words::word_at;
-use records::file::Answer;
 
-const HEAD: usize = 10;
+// Longer than any text or file of the rows.
+const SPACE: usize = 262144;
 
-// A number of document 01 with its offset, and 0 at 0 for an accepted file.
-struct Refusal {
-    number: u64,
-    offset: u64,
-}
-
-// How the rows so far came out. Numbers 9 and 10 need the score, which the reader does not know.
-struct Tally {
-    agree: u64,
-    differ: u64,
-    unscored: u64,
-}
-
-enum Row {
-    Agree,
-    Differ,
-    Unscored,
+enum Kind {
+    Is(u64),
     End,
 }
 
-fn refusal_of(answer: Answer) -> Refusal {
-    match answer {
-        Answer::Map(_) => Refusal {
-            number: 0,
-            offset: 0,
-        },
-        Answer::Refused { number, offset } => Refusal {
-            number: number as u64,
-            offset: offset as u64,
-        },
-    }
+enum Length {
+    Is(usize),
+    Cut,
 }
 
-fn call(kind: u64, file: &[u8]) -> Refusal {
-    if kind == 0 {
-        refusal_of(records::file::read_program_input(file))
+enum Outcome {
+    Agree,
+    Differ,
+    Cut,
+}
+
+// How many rows of a sort there are, and how many of them agree.
+struct Tally {
+    agree: u64,
+    rows: u64,
+}
+
+struct Tallies {
+    refusals: Tally,
+    listings: Tally,
+}
+
+fn read_kind() -> Kind {
+    let mut kind = [0u8; 1];
+    if io::read_full(STDIN_FILENO, &mut kind) < 1 {
+        return Kind::End;
+    }
+    Kind::Is(word_at(&kind, 0, 1))
+}
+
+// Reads a length, then as many bytes to the front of the space.
+fn read_bytes(space: &mut [u8]) -> Length {
+    let mut length = [0u8; 4];
+    if io::read_full(STDIN_FILENO, &mut length) < 4 {
+        return Length::Cut;
+    }
+    let length = word_at(&length, 0, 4) as usize;
+    if frames::read_front(space, length) {
+        Length::Is(length)
     } else {
-        refusal_of(records::file::read_map(file))
+        Length::Cut
     }
 }
 
-fn print_refusal(r: Refusal) {
-    io::print_decimal(STDOUT_FILENO, r.number);
-    io::write_all(STDOUT_FILENO, b" at ");
-    io::print_decimal(STDOUT_FILENO, r.offset);
+fn ends_line(text: &[u8]) -> bool {
+    if text.len() == 0 {
+        return false;
+    }
+    text[text.len() - 1] == b'\n'
 }
 
-fn compare(due: Refusal, found: Refusal) -> Row {
-    if due.number == found.number && due.offset == found.offset {
-        return Row::Agree;
+// Due is the whole listing, or where the table says only that a file is accepted, the front of one, which ends no line.
+fn is_due(text: &[u8], due: &[u8]) -> bool {
+    if !frames::starts_with(text, due) {
+        return false;
     }
-    io::write_all(STDOUT_FILENO, b"due ");
-    print_refusal(due);
-    io::write_all(STDOUT_FILENO, b", found ");
-    print_refusal(found);
-    io::write_all(STDOUT_FILENO, b"\n");
-    Row::Differ
+    !ends_line(due) || text.len() == due.len()
 }
 
-fn replay_file(kind: u64, due: Refusal, space: &[u8], length: usize) -> Row {
-    if due.number == 9 || due.number == 10 {
-        return Row::Unscored;
+fn compare(text: &[u8], due: &[u8]) -> Outcome {
+    if is_due(text, due) {
+        return Outcome::Agree;
     }
-    if space.len() < length {
-        return Row::End;
-    }
-    compare(due, call(kind, &space[..length]))
+    io::write_all(STDOUT_FILENO, b"due:\n");
+    io::write_all(STDOUT_FILENO, due);
+    io::write_all(STDOUT_FILENO, b"\nfound:\n");
+    io::write_all(STDOUT_FILENO, text);
+    Outcome::Differ
 }
 
-// Reads one row and replays it.
-fn replay_row(space: &mut [u8]) -> Row {
-    let mut head = [0u8; 10];
-    if io::read_full(STDIN_FILENO, &mut head) < HEAD {
-        return Row::End;
+fn compare_front(space: &[u8], count: usize, due: &[u8]) -> Outcome {
+    if space.len() < count {
+        return Outcome::Cut;
     }
-    let length = word_at(&head, 6, 4) as usize;
-    if !frames::read_front(space, length) {
-        return Row::End;
+    compare(&space[..count], due)
+}
+
+fn list(kind: u64, file: &[u8], space: &mut [u8]) -> Listed {
+    if kind == 0 {
+        list_input(file, space)
+    } else {
+        list_file(file, space)
     }
-    let due = Refusal {
-        number: word_at(&head, 1, 1),
-        offset: word_at(&head, 2, 4),
+}
+
+fn replay_file(kind: u64, file: &[u8], due: &[u8], space: &mut [u8]) -> Outcome {
+    match list(kind, file, space) {
+        Listed::Text(count) => compare_front(space, count, due),
+        Listed::NoRoom => Outcome::Cut,
+    }
+}
+
+// Reads one row behind its kind and replays it.
+fn replay_row(kind: u64, dues: &mut [u8], files: &mut [u8], space: &mut [u8]) -> Outcome {
+    let Length::Is(due) = read_bytes(dues) else {
+        return Outcome::Cut;
     };
-    replay_file(word_at(&head, 0, 1), due, space, length)
-}
-
-fn print_count(count: u64, what: &[u8]) {
-    io::print_decimal(STDOUT_FILENO, count);
-    io::write_all(STDOUT_FILENO, what);
+    let Length::Is(file) = read_bytes(files) else {
+        return Outcome::Cut;
+    };
+    if dues.len() < due {
+        return Outcome::Cut;
+    }
+    if files.len() < file {
+        return Outcome::Cut;
+    }
+    replay_file(kind, &files[..file], &dues[..due], space)
 }
 
 impl Tally {
-    // No table has so many rows that a count would wrap.
-    fn with(self, row: Row) -> Tally {
-        match row {
-            Row::Agree => Tally {
+    // No input has so many rows that a count would wrap.
+    fn with(self, outcome: Outcome) -> Tally {
+        let rows = std::num::wrapping_add_u64(self.rows, 1);
+        match outcome {
+            Outcome::Agree => Tally {
                 agree: std::num::wrapping_add_u64(self.agree, 1),
-                ..self
+                rows,
             },
-            Row::Differ => Tally {
-                differ: std::num::wrapping_add_u64(self.differ, 1),
-                ..self
-            },
-            Row::Unscored => Tally {
-                unscored: std::num::wrapping_add_u64(self.unscored, 1),
-                ..self
-            },
-            Row::End => self,
+            Outcome::Differ => Tally { rows, ..self },
+            Outcome::Cut => Tally { rows, ..self },
+        }
+    }
+
+    fn print(self, what: &[u8]) {
+        io::print_decimal(STDOUT_FILENO, self.agree);
+        io::write_all(STDOUT_FILENO, b" of ");
+        io::print_decimal(STDOUT_FILENO, self.rows);
+        io::write_all(STDOUT_FILENO, what);
+    }
+}
+
+impl Tallies {
+    fn with(self, kind: u64, outcome: Outcome) -> Tallies {
+        let refusals = self.refusals;
+        let listings = self.listings;
+        if kind < 2 {
+            Tallies {
+                refusals: refusals.with(outcome),
+                listings,
+            }
+        } else {
+            Tallies {
+                refusals,
+                listings: listings.with(outcome),
+            }
         }
     }
 }
 
-fn is_end(row: Row) -> bool {
-    if let Row::End = row { true } else { false }
+fn is_cut(outcome: Outcome) -> bool {
+    if let Outcome::Cut = outcome {
+        true
+    } else {
+        false
+    }
 }
 
 // A proved loop has to end, and nothing says that an input does: it counts its turns down from a number that no run uses up.
-fn replay_all(space: &mut [u8]) -> Tally {
-    let mut tally = Tally {
-        agree: 0,
-        differ: 0,
-        unscored: 0,
+fn replay_all(dues: &mut [u8], files: &mut [u8], space: &mut [u8]) -> Tallies {
+    let none = Tally { agree: 0, rows: 0 };
+    let mut tallies = Tallies {
+        refusals: none,
+        listings: none,
     };
     let mut turns = u64::MAX;
     while turns > 0 {
-        let row = replay_row(space);
-        if is_end(row) {
-            return tally;
+        let Kind::Is(kind) = read_kind() else {
+            return tallies;
+        };
+        let outcome = replay_row(kind, dues, files, space);
+        tallies = tallies.with(kind, outcome);
+        if is_cut(outcome) {
+            return tallies;
         }
-        tally = tally.with(row);
         turns -= 1;
     }
-    tally
+    tallies
 }
 
 fn main() {
-    // Longer than any file of the table.
-    let mut space = [0u8; 262144];
-    let tally = replay_all(&mut space);
-    print_count(tally.agree, b" agree, ");
-    print_count(tally.differ, b" differ, ");
-    print_count(tally.unscored, b" need the score\n");
+    let mut dues = [0u8; SPACE];
+    let mut files = [0u8; SPACE];
+    let mut space = [0u8; SPACE];
+    let tallies = replay_all(&mut dues, &mut files, &mut space);
+    let refusals = tallies.refusals;
+    let listings = tallies.listings;
+    refusals.print(b" rows of the table of refusals and ");
+    listings.print(b" listings agree\n");
 }

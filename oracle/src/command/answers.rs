@@ -1,9 +1,6 @@
-use std::fs;
-
 use super::worked_example;
 use crate::{
     encode::encode,
-    frame::write_frame,
     generate::{objects::Shape, random::Random, shaped, small_file},
     listing::listing,
     map::MapFile,
@@ -22,20 +19,19 @@ const LARGE: [Shape; 6] = [
 ];
 
 /// The fixed list: `count` files, each with its listing by the library.
-pub fn answers(seed: u64, count: u64) -> Result<Vec<u8>, String> {
-    let mut list = Vec::new();
-    for index in 0..count {
-        let file = file(seed, index);
-        let read = read_library(&file);
-        if let Err(refusal) = read {
-            return Err(format!(
-                "file {index} of seed {seed} is refused: {refusal:?}"
-            ));
-        }
-        write_frame(&mut list, &file)?;
-        write_frame(&mut list, listing(&read).as_bytes())?;
+pub fn answers(seed: u64, count: u64) -> Result<Vec<(Vec<u8>, String)>, String> {
+    (0..count).map(|index| answer(seed, index)).collect()
+}
+
+fn answer(seed: u64, index: u64) -> Result<(Vec<u8>, String), String> {
+    let file = file(seed, index);
+    let read = read_library(&file);
+    if let Err(refusal) = read {
+        return Err(format!(
+            "file {index} of seed {seed} is refused: {refusal:?}"
+        ));
     }
-    Ok(list)
+    Ok((file, listing(&read)))
 }
 
 fn file(seed: u64, index: u64) -> Vec<u8> {
@@ -51,10 +47,4 @@ fn map_of(seed: u64, index: u64) -> MapFile {
     }
     let shape = LARGE[(index / LARGE_EVERY) as usize % LARGE.len()];
     shaped(&mut Random::new(seed, index), shape)
-}
-
-pub fn write(seed: u64, count: u64, path: &str) -> Result<(), String> {
-    let list = answers(seed, count)?;
-    fs::write(path, &list).map_err(|why| format!("{path}: {why}"))?;
-    super::write_out(format!("{count} files, {} bytes\n", list.len()).as_bytes())
 }

@@ -6,7 +6,7 @@ use crate::{
     recipe::{self, Kind, Row},
 };
 
-fn rows(path: &str) -> Result<Vec<Row>, String> {
+pub fn rows(path: &str) -> Result<Vec<Row>, String> {
     let text = fs::read_to_string(path).map_err(|why| format!("{path}: {why}"))?;
     recipe::parse_table(&text).map_err(|why| format!("{path}: {why}"))
 }

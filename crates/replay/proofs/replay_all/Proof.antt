@@ -1,4 +1,4 @@
--- Nothing but the length of the lent space is kept from row to row; the measure is the turns that are left.
+-- Nothing but the lengths of the lent spaces is kept from row to row; the measure is the turns that are left.
 use mathlib.Core.Path.{_≡_}
 use lib.ListN.{length}
 use borrow.Author.Needs.{needs}
@@ -6,28 +6,55 @@ use Rattle.replay.proofs.replay_all.Statement.{statement}
 use Rattle.replay.proofs.replay_all.Tie as tie
 
 abbrev Inv-loop : tie.InvT-loop
-Inv-loop space₀ tally₀ turns₀ space tally turns = length space ≡ length space₀
+Inv-loop dues₀ files₀ space₀ tallies₀ turns₀ dues files space tallies turns = (length dues ≡ length dues₀) × (length files ≡ length files₀) × (length space ≡ length space₀)
 
 abbrev μ-loop : tie.MeasureT-loop
-μ-loop space₀ tally₀ turns₀ space tally turns = turns
+μ-loop dues₀ files₀ space₀ tallies₀ turns₀ dues files space tallies turns = turns
 
 loop-holds : tie.Need-loop-holds Inv-loop μ-loop
 loop-holds c = search needs
 
-replay-row-requires : tie.Need-replay-row-requires Inv-loop μ-loop
-replay-row-requires c κs = search needs
+read-kind-requires : tie.Need-read-kind-requires Inv-loop μ-loop
+read-kind-requires c κs = search needs
 
-is-end-requires : tie.Need-is-end-requires Inv-loop μ-loop
-is-end-requires c κs = search needs
+enum-known-kind : tie.Need-enum-known-kind Inv-loop μ-loop
+enum-known-kind c = search needs
+
+enum-told : tie.Need-enum-told Inv-loop μ-loop
+enum-told c = search needs
 
 same-length : tie.Need-same-length Inv-loop μ-loop
 same-length c = search needs
 
+same-length-2 : tie.Need-same-length-2 Inv-loop μ-loop
+same-length-2 c = search needs
+
+same-length-3 : tie.Need-same-length-3 Inv-loop μ-loop
+same-length-3 c = search needs
+
 returns : tie.Need-returns Inv-loop μ-loop
 returns c = search needs
 
+replay-row-requires : tie.Need-replay-row-requires Inv-loop μ-loop
+replay-row-requires c κs = search needs
+
 with-requires : tie.Need-with-requires Inv-loop μ-loop
 with-requires c κs = search needs
+
+is-cut-requires : tie.Need-is-cut-requires Inv-loop μ-loop
+is-cut-requires c κs = search needs
+
+same-length-4 : tie.Need-same-length-4 Inv-loop μ-loop
+same-length-4 c = search needs
+
+same-length-5 : tie.Need-same-length-5 Inv-loop μ-loop
+same-length-5 c = search needs
+
+same-length-6 : tie.Need-same-length-6 Inv-loop μ-loop
+same-length-6 c = search needs
+
+returns-2 : tie.Need-returns-2 Inv-loop μ-loop
+returns-2 c = search needs
 
 sub-turns : tie.Need-sub-turns Inv-loop μ-loop
 sub-turns c = search needs
@@ -38,11 +65,17 @@ loop-less c = search needs
 loop-again : tie.Need-loop-again Inv-loop μ-loop
 loop-again c = search needs
 
-same-length-2 : tie.Need-same-length-2 Inv-loop μ-loop
-same-length-2 c = search needs
+same-length-7 : tie.Need-same-length-7 Inv-loop μ-loop
+same-length-7 c = search needs
 
-returns-2 : tie.Need-returns-2 Inv-loop μ-loop
-returns-2 c = search needs
+same-length-8 : tie.Need-same-length-8 Inv-loop μ-loop
+same-length-8 c = search needs
+
+same-length-9 : tie.Need-same-length-9 Inv-loop μ-loop
+same-length-9 c = search needs
+
+returns-3 : tie.Need-returns-3 Inv-loop μ-loop
+returns-3 c = search needs
 
 pub replay-all-spec : {M : Type 1} → statement M
 replay-all-spec =
@@ -51,13 +84,24 @@ replay-all-spec =
     Inv-loop
     μ-loop
     loop-holds
-    replay-row-requires
-    is-end-requires
+    read-kind-requires
+    enum-known-kind
+    enum-told
     same-length
+    same-length-2
+    same-length-3
     returns
+    replay-row-requires
     with-requires
+    is-cut-requires
+    same-length-4
+    same-length-5
+    same-length-6
+    returns-2
     sub-turns
     loop-less
     loop-again
-    same-length-2
-    returns-2)
+    same-length-7
+    same-length-8
+    same-length-9
+    returns-3)

@@ -1,0 +1,22 @@
+-- The part is as long as it says, since the space is at least that long.
+use mathlib.Core.Path.{sym}
+use lib.Seq.{length-take-le}
+use borrow.Author.Needs.{needs}
+use Rattle.frames.proofs.print_front.Statement.{statement}
+use Rattle.frames.proofs.print_front.Tie as tie
+
+returns : tie.Need-returns
+returns c = search needs
+
+slice-aggregate-write-all : tie.Need-slice-aggregate-write-all
+slice-aggregate-write-all c = sym (length-take-le _ _ (c .before .if1 .left))
+
+write-all-requires : tie.Need-write-all-requires
+write-all-requires c κs = search needs
+
+returns-2 : tie.Need-returns-2
+returns-2 c = search needs
+
+pub print-front-spec : {M : Type 1} → statement M
+print-front-spec =
+    tie.close (tie.spec returns slice-aggregate-write-all write-all-requires returns-2)

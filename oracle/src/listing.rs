@@ -3,28 +3,13 @@
 use std::fmt::Write;
 
 use crate::{
-    map::{MapFile, Play},
+    map::MapFile,
     reader::Refusal,
     values::{Attributes, Estimates, Original},
 };
 
 /// The listing of a read file, or of its refusal.
 pub fn listing(read: &Result<MapFile, Refusal>) -> String {
-    lines(read, |_, _, _| String::new())
-}
-
-/// The listing with the attributes of each play's passed objects behind its line.
-pub fn trace(read: &Result<MapFile, Refusal>) -> String {
-    lines(read, |original, index, play| {
-        attributes_line(index, &original.attributes(play.passed.into()))
-    })
-}
-
-/// The map's line and the plays' lines, each with what belongs behind it.
-fn lines(
-    read: &Result<MapFile, Refusal>,
-    behind: impl Fn(&Original, usize, &Play) -> String,
-) -> String {
     let map = match read {
         Ok(map) => map,
         Err(refusal) => return refusal_line(refusal),
@@ -33,9 +18,17 @@ fn lines(
     let mut text = map_line(&original.attributes(original.object_count()));
     for (index, play) in map.plays.iter().enumerate() {
         text += &play_line(index, &original.estimates(play));
-        text += &behind(&original, index, play);
     }
     text
+}
+
+/// The listing, then the attributes of each play's passed objects.
+pub fn trace(read: &Result<MapFile, Refusal>) -> String {
+    let text = listing(read);
+    match read {
+        Ok(_) => text + &attributes(read, &[]),
+        Err(_) => text,
+    }
 }
 
 /// The attributes after each of the passed counts, or of each play where none is given.

@@ -1,131 +1,147 @@
-// Values of many accepted map files for the comparison with the Rust. The input is frames: a u32 length, little-endian, and a map file. For each
-// it prints the map's line, and for each play its line and the attributes of its passed objects, as `oracle trace` does.
-use estimates::calculator::Estimates;
-use estimates::legacy_score_miss_calc::MissCount;
+// All values of many map files for the comparison with the Rust. The input is frames: a u32 length, little-endian, and a map file. For each it
+// prints the listing, and for each play the attributes of its passed objects, as `oracle trace` does.
 use libc::STDIN_FILENO;
 use libc::STDOUT_FILENO;
+use lines::put_play_line;
+use listing::Listed;
+use listing::list_file;
 use numbers::words::word_at;
 use records::file::Reader;
 use records::file::Step;
 use records::play::Play;
 use records::record::Record;
+use scoring::play_score::PlayScore;
+use scoring::score::GivenPlay;
+use scoring::score::ListedPlay;
+use scoring::score::MapScore;
+use scoring::score::score_map;
+use scoring::score::score_play;
+use scoring::score::score_play_at;
 use simulator::attributes::OsuDifficultyAttributes;
 use simulator::attributes::ScoreAttributes;
-use simulator::simulate::Simulated;
-use simulator::simulate::simulate;
+use text::put_decimal;
+use text::put_float;
+use text::put_text;
+
+// Longer than any file or listing of the comparison.
+const FILE: usize = 262144;
+
+// Longer than the lines of a play.
+const LINES: usize = 1024;
 
 fn print_text(text: &[u8]) {
     io::write_all(STDOUT_FILENO, text);
 }
 
-fn print_number(n: u64) {
-    print_text(b" ");
-    io::print_decimal(STDOUT_FILENO, n);
+fn put_number(space: &mut [u8], at: usize, n: u64) -> usize {
+    let at = put_text(space, at, b" ");
+    put_decimal(space, at, n)
 }
 
-fn print_float(x: f64) {
-    print_text(b" ");
-    if x != x {
-        print_text(b"nan");
-    } else {
-        io::print_hex(STDOUT_FILENO, numbers::bits::f64_to_bits(x), 16);
-    }
+fn put_bits(space: &mut [u8], at: usize, x: f64) -> usize {
+    let at = put_text(space, at, b" ");
+    put_float(space, at, x)
 }
 
-fn print_refused(number: u8, offset: usize) {
-    print_text(b"refused");
-    print_number(number as u64);
-    print_text(b" at");
-    print_number(offset as u64);
-    print_text(b"\n");
+fn put_counts(space: &mut [u8], at: usize, d: OsuDifficultyAttributes) -> usize {
+    let at = put_number(space, at, d.n_circles as u64);
+    let at = put_number(space, at, d.n_sliders as u64);
+    let at = put_number(space, at, d.n_spinners as u64);
+    let at = put_number(space, at, d.n_repeats as u64);
+    let at = put_number(space, at, d.n_ticks as u64);
+    put_text(space, at, b"\n")
 }
 
-fn print_map(a: ScoreAttributes) {
-    print_text(b"map");
-    print_number(a.object_count);
-    print_number(a.multiplier);
-    print_number(a.legacy.accuracy_score);
-    print_number(a.legacy.combo_score);
-    print_float(a.legacy.bonus_score_ratio);
-    print_number(a.legacy.bonus_score.0);
-    print_number(a.legacy.max_combo);
-    print_float(a.difficulty.nested_score_per_object);
-    print_text(b"\n");
-}
-
-fn print_counts(d: OsuDifficultyAttributes) {
-    print_number(d.n_circles as u64);
-    print_number(d.n_sliders as u64);
-    print_number(d.n_spinners as u64);
-    print_number(d.n_repeats as u64);
-    print_number(d.n_ticks as u64);
-    print_text(b"\n");
-}
-
-fn print_attributes(index: u64, a: ScoreAttributes) {
-    print_text(b"attrs");
-    print_number(index);
-    print_number(a.object_count);
-    print_number(a.multiplier);
-    print_number(a.legacy.accuracy_score);
-    print_number(a.legacy.combo_score);
-    print_float(a.legacy.bonus_score_ratio);
-    print_number(a.legacy.bonus_score.0);
-    print_number(a.standardised_bonus_score.0);
-    print_number(a.legacy.max_combo);
-    print_float(a.difficulty.nested_score_per_object);
+fn put_attributes(space: &mut [u8], index: u64, a: ScoreAttributes) -> usize {
+    let at = put_text(space, 0, b"attrs");
+    let at = put_number(space, at, index);
+    let at = put_number(space, at, a.object_count);
+    let at = put_number(space, at, a.multiplier);
+    let at = put_number(space, at, a.legacy.accuracy_score);
+    let at = put_number(space, at, a.legacy.combo_score);
+    let at = put_bits(space, at, a.legacy.bonus_score_ratio);
+    let at = put_number(space, at, a.legacy.bonus_score.0);
+    let at = put_number(space, at, a.standardised_bonus_score.0);
+    let at = put_number(space, at, a.legacy.max_combo);
+    let at = put_bits(space, at, a.difficulty.nested_score_per_object);
     let difficulty = a.difficulty;
-    print_counts(difficulty);
+    put_counts(space, at, difficulty)
 }
 
-fn print_score_based(m: MissCount) {
-    match m {
-        MissCount::Absent => print_text(b" -"),
-        MissCount::Is(x) => print_float(x),
+// All values of a play, as text.
+fn put_score(space: &mut [u8], index: u64, score: PlayScore) -> usize {
+    let attributes = score.attributes;
+    let estimates = score.estimates;
+    let at = put_attributes(space, index, attributes);
+    put_play_line(space, at, index, estimates)
+}
+
+// The values of a play that is given as a struct.
+fn put_given(space: &mut [u8], file: &[u8], index: u64, play: Play) -> usize {
+    match score_play(file, play) {
+        GivenPlay::Score(score) => put_score(space, index, score),
+        GivenPlay::Refused {
+            number: _,
+            offset: _,
+        } => 0,
     }
 }
 
-fn print_play(index: u64, e: Estimates) {
-    print_text(b"play");
-    print_number(index);
-    print_float(e.accuracy);
-    print_float(e.combo_based);
-    let score_based = e.score_based;
-    print_score_based(score_based);
-    print_float(e.effective);
+fn print_differ(index: u64) {
+    print_text(b"differ ");
+    io::print_decimal(STDOUT_FILENO, index);
     print_text(b"\n");
 }
 
-// The lines of a play on the map that the part holds.
-fn trace_play(map: &[u8], index: u64, play: Play) {
-    match simulate(map, play.passed_objects as u64) {
-        Simulated::Refused { number, offset } => print_refused(number, offset),
-        Simulated::Map(a) => {
-            let difficulty = a.difficulty;
-            print_play(index, estimates::calculator::calculate(play, difficulty));
-            print_attributes(index, a);
-        }
+// Whether the play that is given as a struct has the values of the one in the file.
+fn is_same(file: &[u8], index: u64, play: Play, score: PlayScore) -> bool {
+    let mut listed = [0u8; LINES];
+    let mut given = [0u8; LINES];
+    put_score(&mut listed, index, score);
+    put_given(&mut given, file, index, play);
+    frames::starts_with(&listed, &given)
+}
+
+fn trace_score(file: &[u8], index: u64, play: Play, score: PlayScore) {
+    let mut space = [0u8; LINES];
+    let attributes = score.attributes;
+    let end = put_attributes(&mut space, index, attributes);
+    frames::print_front(&space, end);
+    if !is_same(file, index, play, score) {
+        print_differ(index);
     }
 }
 
-// The lines of a record: a play's, and none of another. `end` is where the map ends.
-fn trace_record(file: &[u8], end: usize, index: u64, item: Record) {
-    if file.len() < end {
-        return;
+fn trace_play(file: &[u8], index: u64, play: Play) {
+    match score_play_at(file, index) {
+        ListedPlay::Score(score) => trace_score(file, index, play, score),
+        ListedPlay::NoPlay => print_differ(index),
+        ListedPlay::Refused {
+            number: _,
+            offset: _,
+        } => print_differ(index),
     }
+}
+
+// The lines of a record: a play's, and none of another.
+fn trace_record(file: &[u8], index: u64, item: Record) {
     match item {
-        Record::Play(play) => trace_play(&file[..end], index, play),
+        Record::Play(play) => trace_play(file, index, play),
         Record::Header(_) => {}
         Record::Break(_) => {}
         Record::Object(_) => {}
     }
 }
 
-// Where the map ends, behind one more record.
-fn end_of_map(end: usize, next: Reader) -> usize {
-    if next.counts.last < 4 { next.at } else { end }
+// No play has the index behind the last.
+fn trace_end(file: &[u8], index: u64) {
+    if let ListedPlay::NoPlay = score_play_at(file, index) {
+        return;
+    }
+    print_differ(index);
 }
 
+// The index of the play behind one more record.
 fn play_index(index: u64, next: Reader) -> u64 {
     if next.counts.last < 4 {
         0
@@ -136,23 +152,19 @@ fn play_index(index: u64, next: Reader) -> u64 {
 
 fn trace_plays(file: &[u8]) {
     let mut reader = Reader::new();
-    let mut end = 0;
     let mut index = 0;
     let mut turns = u64::MAX;
     while turns > 0 {
-        if file.len() <= reader.at {
-            return;
-        }
         match records::file::read_record(file, reader) {
             Step::Refused {
                 number: _,
                 offset: _,
             } => {
+                trace_end(file, index);
                 return;
             }
             Step::Next(item, next) => {
-                trace_record(file, end, index, item);
-                end = end_of_map(end, next);
+                trace_record(file, index, item);
                 index = play_index(index, next);
                 reader = next;
             }
@@ -161,24 +173,31 @@ fn trace_plays(file: &[u8]) {
     }
 }
 
-fn trace_file(file: &[u8]) {
-    match simulate(file, u64::MAX) {
-        Simulated::Refused { number, offset } => print_refused(number, offset),
-        Simulated::Map(a) => {
-            print_map(a);
-            trace_plays(file);
+fn print_listing(space: &[u8], listed: Listed) {
+    match listed {
+        Listed::Text(count) => {
+            frames::print_front(space, count);
         }
+        Listed::NoRoom => print_text(b"a listing is too long\n"),
     }
 }
 
-fn trace_front(space: &[u8], length: usize) {
+fn trace_file(file: &[u8], listing: &mut [u8]) {
+    let listed = list_file(file, listing);
+    print_listing(listing, listed);
+    if let MapScore::Map(_) = score_map(file) {
+        trace_plays(file);
+    }
+}
+
+fn trace_front(space: &[u8], length: usize, listing: &mut [u8]) {
     if length <= space.len() {
-        trace_file(&space[..length]);
+        trace_file(&space[..length], listing);
     }
 }
 
 // Reads one frame and traces it; false at the end of the input, or where a file is too long for the space.
-fn trace_frame(space: &mut [u8]) -> bool {
+fn trace_frame(space: &mut [u8], listing: &mut [u8]) -> bool {
     let mut head = [0u8; 4];
     if io::read_full(STDIN_FILENO, &mut head) < 4 {
         return false;
@@ -188,15 +207,15 @@ fn trace_frame(space: &mut [u8]) -> bool {
         print_text(b"the input ends inside a frame, or a file is too long\n");
         return false;
     }
-    trace_front(space, length);
+    trace_front(space, length, listing);
     true
 }
 
 // A proved loop has to end, and nothing says that an input does: it counts its turns down from a number that no run uses up.
-fn trace_all(space: &mut [u8]) {
+fn trace_all(space: &mut [u8], listing: &mut [u8]) {
     let mut turns = u64::MAX;
     while turns > 0 {
-        if !trace_frame(space) {
+        if !trace_frame(space, listing) {
             return;
         }
         turns -= 1;
@@ -204,6 +223,7 @@ fn trace_all(space: &mut [u8]) {
 }
 
 fn main() {
-    let mut space = [0u8; 262144];
-    trace_all(&mut space);
+    let mut space = [0u8; FILE];
+    let mut listing = [0u8; FILE];
+    trace_all(&mut space, &mut listing);
 }

@@ -11,6 +11,9 @@ slice-aggregate-trace-file c = sym (length-take-le _ _ (c .before .if1 .taken))
 trace-file-requires : tie.Need-trace-file-requires
 trace-file-requires c κs = search needs
 
+same-length : tie.Need-same-length
+same-length c = search needs
+
 returns : tie.Need-returns
 returns c = search needs
 
@@ -19,4 +22,5 @@ returns-2 c = search needs
 
 pub trace-front-spec : {M : Type 1} → statement M
 trace-front-spec =
-    tie.close (tie.spec slice-aggregate-trace-file trace-file-requires returns returns-2)
+    tie.close
+    (tie.spec slice-aggregate-trace-file trace-file-requires same-length returns returns-2)

@@ -1,5 +1,6 @@
 // The listing program of document 01: a map file on standard input, its listing on standard output. A program cannot choose its exit status: where
 // input or output fails, it says so on standard error and lists nothing, or nothing more.
+use libc::STDERR_FILENO;
 use libc::STDIN_FILENO;
 use libc::STDOUT_FILENO;
 use listing::Listed;
@@ -114,6 +115,10 @@ fn write_text(text: &[u8]) -> bool {
     false
 }
 
+fn tell_no_room() {
+    io::write_all(STDERR_FILENO, b"the listing is longer than its space\n");
+}
+
 fn list(input: &[u8]) {
     let mut space = [0u8; LISTING];
     match list_input(input, &mut space) {
@@ -123,7 +128,7 @@ fn list(input: &[u8]) {
             }
         }
         // The space is longer than any listing.
-        Listed::NoRoom => {}
+        Listed::NoRoom => tell_no_room(),
     }
 }
 

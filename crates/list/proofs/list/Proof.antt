@@ -63,6 +63,9 @@ fail-requires c κs = search needs
 enum-told : tie.Need-enum-told
 enum-told c = search needs
 
+tell-no-room-requires : tie.Need-tell-no-room-requires
+tell-no-room-requires c κs = search needs
+
 returns : tie.Need-returns
 returns c = search needs
 
@@ -85,6 +88,7 @@ list-spec =
     slice-aggregate-fail
     fail-requires
     enum-told
+    tell-no-room-requires
     returns
     returns-2
     returns-3)

@@ -10,28 +10,8 @@ use Rattle.records.specs.Objects.{Object, Kind, circle, slider, spinner}
 use Rattle.simulator.specs.Hits.{hitsOf}
 use Rattle.simulator.specs.Walk.{State, fresh, walk, after}
 use Rattle.simulator.proofs.Objects.{walk-circle, walk-slider, walk-spinner}
-use Rattle.simulator.proofs.Sums.{gain, items-count, walk-gain}
-
--- the combo that an object gains before its 300
-abbrev pub gainBefore : Kind → ℕ
-gainBefore circle = 0
-gainBefore (slider is) = gain (slider is)
-gainBefore (spinner d) = 0
-
--- "s sums, over the objects, the combo gained .. before the object's 300", from combo c on
-abbrev pub combosBefore : ℕ → List Object → ℕ
-combosBefore c [] = 0
-combosBefore c (o ∷ os) = c + gainBefore (o .kind) + combosBefore (c + gain (o .kind)) os
-
--- "f is 1 if the first object is a circle or spinner"
-abbrev pub noSlider : Kind → ℕ
-noSlider circle = 1
-noSlider (slider is) = 0
-noSlider (spinner d) = 1
-
-abbrev pub firstNoSlider : List Object → ℕ
-firstNoSlider [] = 0
-firstNoSlider (o ∷ os) = noSlider (o .kind)
+use Rattle.simulator.specs.Combo.{gain, gainBefore, combosBefore, noSlider, firstNoSlider}
+use Rattle.simulator.proofs.Sums.{items-count, walk-gain}
 
 -- the factors of 12 × multiplier, one for each object
 abbrev factors : ℕ → List Object → ℕ

@@ -7,16 +7,11 @@ use lib.ListN.{length}
 use Rattle.records.specs.Objects.{Item, tick, repeat, Object, Kind, circle, slider, spinner, repeats, ticks, kindBonus, bonus}
 use Rattle.simulator.specs.Hits.{hitsOf}
 use Rattle.simulator.specs.Walk.{State, walk, after}
+use Rattle.simulator.specs.Combo.{gain}
 use Rattle.simulator.specs.Nested.{counted, countedAll}
 use Rattle.simulator.specs.declared.legacy_score.NestedScorePerObject.{NestedScorePerObject}
 use Rattle.simulator.proofs.Objects.{walk-circle, walk-slider, walk-spinner}
 use Rattle.simulator.proofs.Bonus.{nested-legacy}
-
--- the combo that an object adds: a slider's head and its nested count, which takes in its tail
-abbrev pub gain : Kind → ℕ
-gain circle = 1
-gain (slider is) = 1 + (length is + 1)
-gain (spinner d) = 1
 
 pub items-count : (is : List Item) → repeats is + ticks is ≡ length is
 unfolding repeats ticks

@@ -1,0 +1,160 @@
+-- The entry of any run of an accepted map's objects is within the limits: the legacy bonus alone can leave them. Assumes nothing.
+use Prim.Native.Nat.{ℕ, zero, suc, _+_, _*_, _≤_, _<_}
+use mathlib.Core.Path.{_≡_, refl}
+use mathlib.Core.Bool.{Bool, true, false, cond}
+use mathlib.Core.List.{List, [], _∷_}
+use native.Mathlib.Omega.{arith}
+use native.Mathlib.Nat.{mul-le-mul, mul-le-mul-left, le-trans}
+use lib.Ieee.{Float}
+use lib.ListN.{length, getD}
+use Rattle.spinner.specs.HalfSpins.{totalHalfSpins, requiredHalfSpins}
+use Rattle.spinner.specs.Bonus.{isLarge, isSmall, walked, legacyOf, standardisedOf}
+use Rattle.records.specs.Objects.{Object, Kind, circle, slider, spinner, repeats, ticks, kindBonus, bonus}
+use Rattle.encoding.specs.Limits.{Each, none, one, KindWithin, ObjectWithin}
+use Rattle.simulator.specs.Combo.{gain, gainBefore, combosBefore, firstNoSlider}
+use Rattle.simulator.proofs.Bonus.{nested-legacy}
+use Rattle.simulator.proofs.Sums.{items-count}
+use Rattle.entries.specs.Entry.{accuracyGain, standardisedGain, isCircle, isSlider, isSpinner, repeatsIn, ticksIn, spinnerScoreIn, total, entryOf, wordsOf, limitList, inLimits}
+use Rattle.entries.proofs.Limits.{within-of}
+
+-- ---- sums over objects
+total-most : (v : Kind → ℕ) (c : ℕ) (os : List Object) → Each ObjectWithin os → ((k : Kind) → KindWithin k → v k ≤ c) → total v os ≤ c * length os
+unfolding total
+total-most v c [] none h = omega arith
+total-most v c (o ∷ os) (one w ws) h =
+    let first = h (o .kind) (w .kind) in
+    let rest = total-most v c os ws h in
+    omega (arith, first, rest)
+
+total-below : (v w : Kind → ℕ) (os : List Object) → ((k : Kind) → v k ≤ w k) → total v os ≤ total w os
+unfolding total
+total-below v w [] h = omega arith
+total-below v w (o ∷ os) h = let first = h (o .kind) in let rest = total-below v w os h in omega (arith, first, rest)
+
+-- ---- what one object adds
+gain-most : (k : Kind) → KindWithin k → gain k ≤ 1001
+gain-most circle h = omega arith
+gain-most (slider is) h = omega (arith, h)
+gain-most (spinner d) h = omega arith
+
+accuracy-most : (k : Kind) → KindWithin k → accuracyGain k ≤ 30330
+accuracy-most circle h = omega arith
+accuracy-most (slider is) h = let n = items-count is in omega (arith, h, n)
+accuracy-most (spinner d) h = omega arith
+
+circle-most : (k : Kind) → KindWithin k → isCircle k ≤ 1
+circle-most circle h = omega arith
+circle-most (slider is) h = omega arith
+circle-most (spinner d) h = omega arith
+
+slider-most : (k : Kind) → KindWithin k → isSlider k ≤ 1
+slider-most circle h = omega arith
+slider-most (slider is) h = omega arith
+slider-most (spinner d) h = omega arith
+
+spinner-most : (k : Kind) → KindWithin k → isSpinner k ≤ 1
+spinner-most circle h = omega arith
+spinner-most (slider is) h = omega arith
+spinner-most (spinner d) h = omega arith
+
+repeats-most : (k : Kind) → KindWithin k → repeatsIn k ≤ 1001
+repeats-most circle h = omega arith
+repeats-most (slider is) h = let n = items-count is in omega (arith, h, n)
+repeats-most (spinner d) h = omega arith
+
+ticks-most : (k : Kind) → KindWithin k → ticksIn k ≤ 1001
+ticks-most circle h = omega arith
+ticks-most (slider is) h = let n = items-count is in omega (arith, h, n)
+ticks-most (spinner d) h = omega arith
+
+-- the standardised bonus and the nested score of a spinner are at most its legacy bonus
+walked-below : (b i : ℕ) → walked 50 10 b i ≤ walked 1100 100 b i
+unfolding walked
+walked-below b zero = omega arith
+walked-below b (suc i) = step (isLarge b i) (isSmall i) (walked 50 10 b i) (walked 1100 100 b i) (walked-below b i)
+  where
+    step : (x y : Bool) (u v : ℕ) → u ≤ v → u + cond x 50 (cond y 10 0) ≤ v + cond x 1100 (cond y 100 0)
+    step true y u v h = omega arith
+    step false true u v h = omega arith
+    step false false u v h = omega arith
+
+standardised-below : (k : Kind) → standardisedGain k ≤ kindBonus k
+unfolding legacyOf standardisedOf
+standardised-below circle = omega arith
+standardised-below (slider is) = omega arith
+standardised-below (spinner d) = walked-below (requiredHalfSpins d + 3) (suc (totalHalfSpins d))
+
+spinner-below : (k : Kind) → spinnerScoreIn k ≤ kindBonus k
+spinner-below circle = omega arith
+spinner-below (slider is) = omega arith
+spinner-below (spinner d) = nested-legacy d
+
+-- ---- s and f
+before-below : (k : Kind) → gainBefore k ≤ gain k
+before-below circle = omega arith
+before-below (slider is) = omega arith
+before-below (spinner d) = omega arith
+
+before-most : (c : ℕ) (os : List Object) → combosBefore c os ≤ (c + total gain os) * length os
+unfolding total
+before-most c [] = omega arith
+before-most c (o ∷ os) =
+    step (gainBefore (o .kind)) (gain (o .kind)) (total gain os) (combosBefore (c + gain (o .kind)) os) (length os) (before-below (o .kind)) (before-most (c + gain (o .kind)) os)
+  where
+    step : (b g t x n : ℕ) → b ≤ g → x ≤ (c + g + t) * n → c + b + x ≤ (c + (g + t)) * suc n
+    step b g t x n h k =
+        let e : c + g + t ≡ c + (g + t) = omega arith in
+        let m : x ≤ (c + (g + t)) * n = rw e at k in
+        omega (arith, h, m)
+
+first-most : (os : List Object) → firstNoSlider os ≤ 1
+first-most [] = omega arith
+first-most (o ∷ os) = kind-most (o .kind)
+  where
+    kind-most : (k : Kind) → firstNoSlider (record { start = o .start; kind = k } ∷ os) ≤ 1
+    kind-most circle = omega arith
+    kind-most (slider is) = omega arith
+    kind-most (spinner d) = omega arith
+
+pub bonus-total : (os : List Object) → total kindBonus os ≡ bonus os
+unfolding total bonus
+bonus-total [] = refl
+bonus-total (o ∷ os) = let e = bonus-total os in omega (arith, e)
+
+pub entry-within : (os : List Object) → Each ObjectWithin os → length os ≤ 8192 → bonus os ≤ 2147483647 → inLimits (entryOf os) ≡ true
+unfolding entryOf
+entry-within os w few low =
+    let many : (c : ℕ) → c * length os ≤ c * 8192 = (λ c. mul-le-mul-left c few) in
+    let legacy : total kindBonus os ≤ 2147483647 = (let e = bonus-total os in omega (arith, e, low)) in
+    let combo : total gain os ≤ 8200192 = (let t = total-most gain 1001 os w gain-most in omega (arith, t, many 1001)) in
+    let before : combosBefore 0 os ≤ 137438953472 =
+    (let b = before-most 0 os in let z : 0 + total gain os ≡ total gain os = omega arith in let d = rw z at b in let p = mul-le-mul combo few in omega (arith, d, p)) in
+    let first = first-most os in
+    let accuracy : total accuracyGain os ≤ 2147483647 = (let t = total-most accuracyGain 30330 os w accuracy-most in omega (arith, t, many 30330)) in
+    let standardised : total standardisedGain os ≤ 2147483647 = (let t = total-below standardisedGain kindBonus os standardised-below in omega (arith, t, legacy)) in
+    let circles : total isCircle os ≤ 8192 = (let t = total-most isCircle 1 os w circle-most in omega (arith, t, few)) in
+    let sliders : total isSlider os ≤ 8192 = (let t = total-most isSlider 1 os w slider-most in omega (arith, t, few)) in
+    let spinners : total isSpinner os ≤ 8192 = (let t = total-most isSpinner 1 os w spinner-most in omega (arith, t, few)) in
+    let repeated : total repeatsIn os ≤ 8200192 = (let t = total-most repeatsIn 1001 os w repeats-most in omega (arith, t, many 1001)) in
+    let ticked : total ticksIn os ≤ 8200192 = (let t = total-most ticksIn 1001 os w ticks-most in omega (arith, t, many 1001)) in
+    let spun : total spinnerScoreIn os ≤ 2147483647 = (let t = total-below spinnerScoreIn kindBonus os spinner-below in omega (arith, t, legacy)) in
+    within-of (entryOf os) (places few combo before first accuracy legacy standardised circles sliders spinners repeated ticked spun)
+  where
+    places : length os ≤ 8192 → total gain os ≤ 8200192 → combosBefore 0 os ≤ 137438953472 → firstNoSlider os ≤ 1 → total accuracyGain os ≤ 2147483647
+        → total kindBonus os ≤ 2147483647 → total standardisedGain os ≤ 2147483647 → total isCircle os ≤ 8192 → total isSlider os ≤ 8192 → total isSpinner os ≤ 8192
+        → total repeatsIn os ≤ 8200192 → total ticksIn os ≤ 8200192 → total spinnerScoreIn os ≤ 2147483647
+        → (i : ℕ) → i < 13 → getD (wordsOf (entryOf os)) i 0 ≤ getD limitList i 0
+    places a b c d e f g h j k l m n zero lt = a
+    places a b c d e f g h j k l m n (suc zero) lt = b
+    places a b c d e f g h j k l m n (suc (suc zero)) lt = c
+    places a b c d e f g h j k l m n (suc (suc (suc zero))) lt = d
+    places a b c d e f g h j k l m n (suc (suc (suc (suc zero)))) lt = e
+    places a b c d e f g h j k l m n (suc (suc (suc (suc (suc zero))))) lt = f
+    places a b c d e f g h j k l m n (suc (suc (suc (suc (suc (suc zero)))))) lt = g
+    places a b c d e f g h j k l m n (suc (suc (suc (suc (suc (suc (suc zero))))))) lt = h
+    places a b c d e f g h j k l m n (suc (suc (suc (suc (suc (suc (suc (suc zero)))))))) lt = j
+    places a b c d e f g h j k l m n (suc (suc (suc (suc (suc (suc (suc (suc (suc zero))))))))) lt = k
+    places a b c d e f g h j k l m n (suc (suc (suc (suc (suc (suc (suc (suc (suc (suc zero)))))))))) lt = l
+    places a b c d e f g h j k l m n (suc (suc (suc (suc (suc (suc (suc (suc (suc (suc (suc zero))))))))))) lt = m
+    places a b c d e f g h j k l m n (suc (suc (suc (suc (suc (suc (suc (suc (suc (suc (suc (suc zero)))))))))))) lt = n
+    places a b c d e f g h j k l m n (suc (suc (suc (suc (suc (suc (suc (suc (suc (suc (suc (suc (suc i))))))))))))) lt = absurd (omega (arith, lt))

@@ -1,0 +1,5 @@
+pub mod Limits
+pub mod Runs
+pub mod WordLaws
+pub mod Accepted
+pub mod Scores

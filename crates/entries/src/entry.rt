@@ -1,0 +1,171 @@
+// One entry: the sums over the objects that it covers. This file and `words.rt` name the words; nothing above them does.
+use records::hit_object::HitObject;
+use records::hit_object::HitObjectKind;
+use records::hit_object::Slider;
+use records::hit_object::Spinner;
+use simulator::legacy_score::calculate_spinner_score;
+ghost use mathlib.Core.Path.{_≡_};
+ghost use mathlib.Core.Bool.{true};
+ghost use Prim.Native.Nat.{_+_, _≤_};
+ghost use Rattle.simulator.specs.Limits.{nestedCount};
+ghost use Rattle.entries.specs.Entry.{none, joined, firstOf, inLimits, circleEntry, sliderEntry, spinnerEntry, ownEntry};
+
+// Combo and combos_before are document 01's k and s, first_no_slider its f.
+pub struct Entry {
+    pub object_count: u64,
+    pub combo: u64,
+    pub combos_before: u64,
+    pub first_no_slider: u64,
+    pub accuracy_score: u64,
+    pub legacy_bonus_score: u64,
+    pub standardised_bonus_score: u64,
+    pub n_circles: u64,
+    pub n_sliders: u64,
+    pub n_spinners: u64,
+    pub n_repeats: u64,
+    pub n_ticks: u64,
+    pub spinner_score: u64,
+}
+
+// The first that is there: b where a has no object.
+fn first(count: u64, a: u64, b: u64) -> u64
+    ensures { λ r. ⌜ r ≡ firstOf count a b ⌝ }
+{
+    if 0 < count { a } else { b }
+}
+
+impl Entry {
+    pub const WORDS: usize = 13;
+
+    pub const MAX_COUNT: u64 = 8192;
+
+    pub const MAX_COMBO: u64 = 8200192;
+
+    pub const MAX_COMBOS_BEFORE: u64 = 137438953472;
+
+    pub const MAX_FIRST: u64 = 1;
+
+    pub const MAX_SCORE: u64 = 2147483647;
+
+    // That of no object.
+    pub fn new() -> Self
+        ensures { λ r. ⌜ r ≡ none ⌝ }
+    {
+        Entry {
+            object_count: 0,
+            combo: 0,
+            combos_before: 0,
+            first_no_slider: 0,
+            accuracy_score: 0,
+            legacy_bonus_score: 0,
+            standardised_bonus_score: 0,
+            n_circles: 0,
+            n_sliders: 0,
+            n_spinners: 0,
+            n_repeats: 0,
+            n_ticks: 0,
+            spinner_score: 0,
+        }
+    }
+
+    fn circle() -> Self
+        ensures { λ r. ⌜ r ≡ circleEntry ⌝ }
+    {
+        Entry {
+            object_count: 1,
+            combo: 1,
+            first_no_slider: 1,
+            accuracy_score: 300,
+            n_circles: 1,
+            ..Entry::new()
+        }
+    }
+
+    fn slider(slider: Slider) -> Self
+        requires { ⌜ slider .repeats + slider .ticks + 1 ≤ 1000 ⌝ }
+        ensures { λ r. ⌜ r ≡ sliderEntry slider ⌝ }
+    {
+        let combo = slider.repeats + slider.ticks + 2;
+        Entry {
+            object_count: 1,
+            combo,
+            combos_before: combo,
+            accuracy_score: (slider.repeats + 2) * 30 + slider.ticks * 10 + 300,
+            n_sliders: 1,
+            n_repeats: slider.repeats,
+            n_ticks: slider.ticks,
+            ..Entry::new()
+        }
+    }
+
+    fn spinner(spinner: Spinner) -> Self
+        ensures { λ r. ⌜ r ≡ spinnerEntry spinner ⌝ }
+    {
+        let bonus = spinner::bonus(spinner.duration);
+        Entry {
+            object_count: 1,
+            combo: 1,
+            first_no_slider: 1,
+            accuracy_score: 300,
+            legacy_bonus_score: bonus.legacy.0,
+            standardised_bonus_score: bonus.standardised.0,
+            n_spinners: 1,
+            spinner_score: calculate_spinner_score(spinner),
+            ..Entry::new()
+        }
+    }
+
+    // That of one object.
+    pub fn own(object: HitObject) -> Self
+        requires { ⌜ nestedCount (object .kind) ≤ 1000 ⌝ }
+        ensures { λ r. ⌜ r ≡ ownEntry (object .kind) ⌝ }
+    {
+        let kind = object.kind;
+        match kind {
+            HitObjectKind::Circle => Entry::circle(),
+            HitObjectKind::Slider(slider) => Entry::slider(slider),
+            HitObjectKind::Spinner(spinner) => Entry::spinner(spinner),
+        }
+    }
+
+    // One branch for all words.
+    pub fn within(self) -> bool
+        ensures { λ r. ⌜ r ≡ inLimits self ⌝ }
+    {
+        (self.object_count <= Entry::MAX_COUNT)
+            & (self.combo <= Entry::MAX_COMBO)
+            & (self.combos_before <= Entry::MAX_COMBOS_BEFORE)
+            & (self.first_no_slider <= Entry::MAX_FIRST)
+            & (self.accuracy_score <= Entry::MAX_SCORE)
+            & (self.legacy_bonus_score <= Entry::MAX_SCORE)
+            & (self.standardised_bonus_score <= Entry::MAX_SCORE)
+            & (self.n_circles <= Entry::MAX_COUNT)
+            & (self.n_sliders <= Entry::MAX_COUNT)
+            & (self.n_spinners <= Entry::MAX_COUNT)
+            & (self.n_repeats <= Entry::MAX_COMBO)
+            & (self.n_ticks <= Entry::MAX_COMBO)
+            & (self.spinner_score <= Entry::MAX_SCORE)
+    }
+
+    // That of the objects of self, then those of b.
+    pub fn join(self, b: Entry) -> Self
+        requires { ⌜ (inLimits self ≡ true) × (inLimits b ≡ true) ⌝ }
+        ensures { λ r. ⌜ r ≡ joined self b ⌝ }
+    {
+        Entry {
+            object_count: self.object_count + b.object_count,
+            combo: self.combo + b.combo,
+            combos_before: self.combos_before + b.combos_before + self.combo * b.object_count,
+            first_no_slider: first(self.object_count, self.first_no_slider, b.first_no_slider),
+            accuracy_score: self.accuracy_score + b.accuracy_score,
+            legacy_bonus_score: self.legacy_bonus_score + b.legacy_bonus_score,
+            standardised_bonus_score: self.standardised_bonus_score + b.standardised_bonus_score,
+            n_circles: self.n_circles + b.n_circles,
+            n_sliders: self.n_sliders + b.n_sliders,
+            n_spinners: self.n_spinners + b.n_spinners,
+            n_repeats: self.n_repeats + b.n_repeats,
+            n_ticks: self.n_ticks + b.n_ticks,
+            spinner_score: self.spinner_score + b.spinner_score,
+        }
+    }
+}

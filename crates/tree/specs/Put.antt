@@ -1,0 +1,38 @@
+-- Document 01, "The board": "An edit reads the other half of each covering entry, from the bottom up".
+use Prim.Native.Nat.{ℕ, zero, suc, _+_, _-_, _/_, _%_}
+use mathlib.Core.Bool.{Bool, cond, not}
+use mathlib.Core.List.{List}
+use lib.Dec.{eqb}
+use Rattle.records.specs.Refusals.{Checked, good, refused, _>>=_, _>>_, refuse_when_}
+use Rattle.entries.specs.Entry.{joined, inLimits}
+use Rattle.entries.specs.Words.{entryAt, putEntry}
+use Rattle.entries.specs.declared.entry.Entry.{Entry}
+use Rattle.tree.specs.Limited.{limited}
+use Rattle.tree.specs.declared.Put.{Put}
+use Rattle.tree.specs.declared.Put.the-variants as put
+
+-- the other half of the entry above e
+abbrev pub besideOf : ℕ → ℕ
+besideOf e = cond (eqb (e % 2) 0) (e + 1) (e - 1)
+
+-- the entry above e, from v at e and what was read beside it
+unfoldable pub aboveOf : ℕ → Entry → Entry → Checked Entry
+aboveOf e v read = do
+  refuse 13 when not (inLimits read)
+  limited (cond (eqb (e % 2) 0) (joined v read) (joined read v))
+
+-- v at entry e and what follows from it at the n entries above
+unfoldable pub climbed : ℕ → List ℕ → ℕ → Entry → Checked (List ℕ)
+climbed zero b e v = good (putEntry b e v)
+climbed (suc n) b e v = do
+  u ← aboveOf e v (entryAt b (besideOf e))
+  written ← climbed n b (e / 2) u
+  good (putEntry written e v)
+
+abbrev pub putOf : Checked (List ℕ) → Put
+putOf (refused n) = put.Refused n
+putOf (good b) = put.Done
+
+abbrev pub orElse : Checked (List ℕ) → List ℕ → List ℕ
+orElse (refused n) b = b
+orElse (good written) b = written

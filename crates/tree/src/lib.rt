@@ -1,0 +1,118 @@
+// The tree of entries in a lent slice of words: entry e above 2e and 2e + 1, the places' own entries at its bottom.
+use entries::entry::Entry;
+use entries::words::load;
+use entries::words::store;
+ghost use mathlib.Core.Path.{_≡_};
+ghost use mathlib.Core.Bool.{true};
+ghost use Prim.Native.Nat.{_+_, _*_, _/_, _≤_};
+ghost use lib.ListN.{length};
+ghost use Rattle.entries.specs.Entry.{inLimits};
+ghost use Rattle.tree.specs.Limited.{withoutLegacy, limited, afterOf, combinedOf};
+ghost use Rattle.tree.specs.Size.{levelsOf, capOf};
+ghost use Rattle.tree.specs.Put.{besideOf, aboveOf, climbed, putOf, orElse};
+
+// An entry combined with one as read, or the number of what is out of its limits.
+pub enum Combined {
+    Is(Entry),
+    Refused(u8),
+}
+
+pub enum Put {
+    Done,
+    Refused(u8),
+}
+
+fn without_legacy(e: Entry) -> Entry
+    ensures { λ r. ⌜ r ≡ withoutLegacy e ⌝ }
+{
+    Entry {
+        legacy_bonus_score: 0,
+        ..e
+    }
+}
+
+// The combined words but the legacy bonus, then that.
+fn limit(e: Entry) -> Combined
+    ensures { λ r. ⌜ r ≡ combinedOf (limited e) ⌝ }
+{
+    if !without_legacy(e).within() {
+        return Combined::Refused(13);
+    }
+    if Entry::MAX_SCORE < e.legacy_bonus_score {
+        return Combined::Refused(7);
+    }
+    Combined::Is(e)
+}
+
+// The objects of a, then those of an entry as read.
+pub fn after(a: Entry, read: Entry) -> Combined
+    requires { ⌜ inLimits a ≡ true ⌝ }
+    ensures { λ r. ⌜ r ≡ combinedOf (afterOf a read) ⌝ }
+{
+    if !read.within() {
+        return Combined::Refused(13);
+    }
+    limit(a.join(read))
+}
+
+// The other half of the entry above e.
+fn beside(e: usize) -> usize
+    ensures { λ r. ⌜ r ≡ besideOf e ⌝ }
+{
+    if e % 2 == 0 { e + 1 } else { e - 1 }
+}
+
+// The entry above e, from v at e and what was read beside it.
+fn above(e: usize, v: Entry, read: Entry) -> Combined
+    requires { ⌜ inLimits v ≡ true ⌝ }
+    ensures { λ r. ⌜ r ≡ combinedOf (aboveOf e v read) ⌝ }
+{
+    if !read.within() {
+        return Combined::Refused(13);
+    }
+    if e % 2 == 0 {
+        return limit(v.join(read));
+    }
+    limit(read.join(v))
+}
+
+// Reads the other half of each entry above e, from the bottom up, and writes only behind the last check.
+pub fn climb(b: &mut [u64], levels: usize, e: usize, v: Entry) -> Put
+    requires { ⌜ (e / 2 * 26 + 26 ≤ length (now b)) × (inLimits v ≡ true) ⌝ }
+    ensures { λ r. ⌜ r ≡ putOf (climbed levels (now (b .entry)) e v) ⌝ }
+    ensures { λ _. ⌜ now (b .exit) ≡ orElse (climbed levels (now (b .entry)) e v) (now (b .entry)) ⌝ }
+{
+    if levels == 0 {
+        store(b, e, v);
+        return Put::Done;
+    }
+    match above(e, v, load(b, beside(e))) {
+        Combined::Refused(number) => Put::Refused(number),
+        Combined::Is(u) => match climb(b, levels - 1, e / 2, u) {
+            Put::Refused(number) => Put::Refused(number),
+            Put::Done => {
+                store(b, e, v);
+                Put::Done
+            }
+        },
+    }
+}
+
+pub struct Size {
+    pub levels: usize,
+    pub cap: usize,
+}
+
+// The levels of a board and its places, C.
+pub fn size_of(count: usize) -> Size
+    requires { ⌜ count ≤ 8192 ⌝ }
+    ensures { λ r. ⌜ (r .levels ≡ levelsOf count) × (r .cap ≡ capOf count) × (r .cap ≤ 8192) × (count ≤ r .cap) × (r .levels ≤ 13) ⌝ }
+{
+    let mut levels = 0;
+    let mut cap = 1;
+    while cap < count {
+        cap = cap * 2;
+        levels = levels + 1;
+    }
+    Size { levels, cap }
+}

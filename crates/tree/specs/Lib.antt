@@ -1,3 +1,4 @@
 pub mod Limited
 pub mod Size
 pub mod Put
+pub mod First

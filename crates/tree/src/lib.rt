@@ -4,11 +4,12 @@ use entries::words::load;
 use entries::words::store;
 ghost use mathlib.Core.Path.{_≡_};
 ghost use mathlib.Core.Bool.{true};
-ghost use Prim.Native.Nat.{_+_, _*_, _/_, _≤_};
+ghost use Prim.Native.Nat.{_+_, _*_, _/_, _^_, _≤_, _<_};
 ghost use lib.ListN.{length};
-ghost use Rattle.entries.specs.Entry.{inLimits};
+ghost use Rattle.entries.specs.Entry.{none, inLimits};
 ghost use Rattle.tree.specs.Limited.{withoutLegacy, limited, afterOf, combinedOf};
 ghost use Rattle.tree.specs.Size.{levelsOf, capOf};
+ghost use Rattle.tree.specs.First.{walked, turnedOf};
 ghost use Rattle.tree.specs.Put.{besideOf, aboveOf, climbed, putOf, orElse};
 
 // An entry combined with one as read, or the number of what is out of its limits.
@@ -115,4 +116,71 @@ pub fn size_of(count: usize) -> Size
         levels = levels + 1;
     }
     Size { levels, cap }
+}
+
+// Where a combination of the first places stands: the levels below, the entry to look at next, how many places it covers, how many are left.
+pub struct Prefix {
+    pub left: usize,
+    pub x: usize,
+    pub width: usize,
+    pub rest: usize,
+    pub sum: Entry,
+}
+
+pub enum Turned {
+    Next(Prefix),
+    Refused(u8),
+}
+
+// Takes the entry if all that it covers is left to cover, and goes one level down.
+fn turn(b: &[u64], t: Prefix) -> Turned
+    requires { ⌜ (0 < t .left) × (t .x ≤ 16384) × (t .width ≤ t .rest → t .x * 13 + 13 ≤ length (now b)) × (inLimits (t .sum) ≡ true) ⌝ }
+    ensures { λ r. ⌜ r ≡ turnedOf (now (b .entry)) t ⌝ }
+{
+    let sum = t.sum;
+    if t.rest < t.width {
+        return Turned::Next(Prefix {
+            left: t.left - 1,
+            x: t.x * 2,
+            width: t.width / 2,
+            rest: t.rest,
+            sum,
+        });
+    }
+    match after(sum, load(b, t.x)) {
+        Combined::Refused(number) => Turned::Refused(number),
+        Combined::Is(u) => Turned::Next(Prefix {
+            left: t.left - 1,
+            x: (t.x + 1) * 2,
+            width: t.width / 2,
+            rest: t.rest - t.width,
+            sum: u,
+        }),
+    }
+}
+
+// Combines the largest entries that together cover just the first p places, from the left.
+pub fn sum_of_first(b: &[u64], size: Size, p: usize) -> Combined
+    requires { ⌜ (size .cap ≡ 2 ^ size .levels) × (size .levels ≤ 13) × (size .cap ≤ 8192) × (p ≤ size .cap) × (size .cap * 26 ≤ length (now b)) ⌝ }
+    ensures { λ r. ⌜ r ≡ combinedOf (walked (size .levels + 1) (now (b .entry)) 1 p none) ⌝ }
+{
+    let mut t = Prefix {
+        left: size.levels + 1,
+        x: 1,
+        width: size.cap,
+        rest: p,
+        sum: Entry::new(),
+    };
+    while 0 < t.left {
+        match turn(b, t) {
+            Turned::Next(next) => {
+                t = next;
+            }
+            Turned::Refused(number) => {
+                return Combined::Refused(number);
+            }
+        }
+    }
+    let sum = t.sum;
+    Combined::Is(sum)
 }

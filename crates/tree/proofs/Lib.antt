@@ -1,3 +1,4 @@
 pub mod Levels
 pub mod Climbs
 pub mod Firsts
+pub mod Covers

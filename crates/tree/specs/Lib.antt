@@ -2,3 +2,4 @@ pub mod Limited
 pub mod Size
 pub mod Put
 pub mod First
+pub mod Board

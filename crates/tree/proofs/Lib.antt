@@ -2,3 +2,4 @@ pub mod Levels
 pub mod Climbs
 pub mod Firsts
 pub mod Covers
+pub mod Within

@@ -21,9 +21,7 @@ use Rattle.scoring.specs.Scores.{Outcome, refusal, values, at-offset, then, Sco
 use Rattle.scoring.specs.declared.play_score.PlayScore.{PlayScore}
 use Rattle.scoring.proofs.Answers.{no-number}
 use Rattle.demands.proofs.Rules.{IsRule, refusal-rule}
-
-never : {A : Type 0} → _≡_ {A = ℕ} 0 1 → A
-never e = absurd (omega arith)
+use Rattle.records.proofs.Laws.{never}
 
 -- ---- Demand 1
 -- "An input that breaks a rule of document 01 gets that rule's number": a refusal's number is that of a rule, 2 to 10 (1 is the program's own).

@@ -116,6 +116,10 @@ first-most (o ∷ os) = kind-most (o .kind)
     kind-most (slider is) = omega arith
     kind-most (spinner d) = omega arith
 
+pub entry-first : (os : List Object) → entryOf os .«first_no_slider» ≤ 1
+unfolding entryOf
+entry-first os = first-most os
+
 pub bonus-total : (os : List Object) → total kindBonus os ≡ bonus os
 unfolding total bonus
 bonus-total [] = refl

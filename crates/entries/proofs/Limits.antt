@@ -10,14 +10,7 @@ use lib.ListN.{length, getD}
 use borrow.Author.Tests.{leb-true, le-leb}
 use Rattle.entries.specs.Entry.{inLimits, allLe, wordsOf, limitList}
 use Rattle.entries.specs.declared.entry.Entry.{Entry}
-
-and-left : (a b : Bool) → a && b ≡ true → a ≡ true
-and-left true b h = refl
-and-left false b h = h
-
-and-right : (a b : Bool) → a && b ≡ true → b ≡ true
-and-right true b h = h
-and-right false b h = absurd (false≢true h)
+use Rattle.records.proofs.Laws.{and-left, and-right}
 
 all-le-start : (t : Bool) (xs ls : List ℕ) → allLe t xs ls ≡ true → t ≡ true
 all-le-start t [] ls h = h

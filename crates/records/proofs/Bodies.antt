@@ -12,9 +12,7 @@ use Rattle.records.specs.declared.record.Record.{Record}
 use Rattle.records.specs.declared.record.Read.{Read}
 use Rattle.records.specs.declared.record.Read.the-variants.{Good, Refused}
 use Rattle.records.specs.declared.file.Counts.{Counts}
-
-never : {A : Type 0} → _≡_ {A = ℕ} 0 1 → A
-never e = absurd (omega arith)
+use Rattle.records.proofs.Laws.{never}
 
 pub bonus-kept : (x : Content) → bonusIn (contentView x) ≡ contentBonus x
 bonus-kept (header s) = refl

@@ -16,6 +16,7 @@ use Rattle.records.specs.Records.{Content, Found, CI, SL, SP, headerOf, 
 use Rattle.records.specs.Order.{MH, BR, PL, rankOf, inOrder, isFull, overBonus, contentBonus, bodyOf, recordOf}
 use Rattle.records.specs.declared.file.Counts.{Counts}
 use Rattle.records.proofs.All.{All, none, that, all-any, all-bind, all-when, all-pick, all-out}
+use Rattle.records.proofs.Laws.{never}
 
 module _ (p t : List ℕ) where
   -- the fields of a part that is there
@@ -122,10 +123,6 @@ module _ (p t : List ℕ) (f : Content × ℕ) where
   body-in : (m : ℕ) → Found-in p t (λ r. bodyOf r m) f
   unfolding bodyOf
   body-in m e h = pick-in (eqb m MH) (λ k. header-in k h) (pick-in (eqb m BR) (λ k. break-in k h) (pick-in (eqb m PL) (λ k. play-in k h) (λ k. object-in m k h))) e
-
--- ---- the checks that a good record passed
-never : {A : Type 0} → _≡_ {A = ℕ} 0 1 → A
-never e = absurd (omega arith)
 
 when-out : {A : Type 0} (n : ℕ) (b : Bool) {y : Checked A} {a : A} → ((refuse n when b) >> y) ≡ good a → (b ≡ false) × (y ≡ good a)
 unfolding _>>_ refuse_when_

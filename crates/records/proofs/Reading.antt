@@ -27,9 +27,7 @@ use Rattle.records.proofs.Bodies.{bonus-kept}
 use Rattle.records.proofs.Local.{record-in}
 use Rattle.records.proofs.Room.{placeOf, record-ordered}
 use Rattle.records.proofs.Sizes.{Sized, record-sized}
-
-never : {A : Type 0} → _≡_ {A = ℕ} 0 1 → A
-never e = absurd (omega arith)
+use Rattle.records.proofs.Laws.{never}
 
 -- ---- one more element at the end of a list
 pub length-snoc : {A : Type 0} (l : List A) (x : A) → length (l ++ (x ∷ [])) ≡ length l + 1

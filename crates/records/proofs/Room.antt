@@ -15,6 +15,7 @@ use Rattle.records.specs.View.{Fits, bonusIn}
 use Rattle.records.specs.declared.file.Counts.{Counts}
 use Rattle.records.proofs.All.{All, none, that, all-bind, all-any, all-when, all-pick}
 use Rattle.records.proofs.Bodies.{bonus-kept}
+use Rattle.records.proofs.Laws.{and-left, and-right}
 
 -- the place of a content in the order
 abbrev pub placeOf : Content → ℕ
@@ -56,11 +57,6 @@ record-fits r c =
     all-when 2 _ _ (λ _. all-when 3 _ _ (λ _. all-when 6 _ _ (λ few.
     all-bind (bodyOf r (wordAt r 0 2)) _ (body-placed r (wordAt r 0 2)) (λ f h. all-when 7 _ _ (λ low. that (fits c (wordAt r 0 2) (f .0) h few low))))))
 
--- a record comes after those of an earlier place only
-and-right : (a b : Bool) → (a && b) ≡ true → b ≡ true
-and-right true b e = e
-and-right false b e = absurd (let z : _≡_ {A = ℕ} 0 1 = cc in omega arith)
-
 ordered : (last m : ℕ) (x : Content) → placeOf x ≡ rankOf m → inOrder last (rankOf m) ≡ true → last ≤ placeOf x
 ordered last m (header s) p q = let e = eqb-true last 0 (rw (sym p) at q) in omega (arith, e)
 ordered last m (break b) p q = leb-true last 2 (and-right (ltb 0 last) (leb last 2) (rw (sym p) at q))
@@ -79,10 +75,6 @@ Begun c (header s) = Unit
 Begun c (break b) = 0 < c .last
 Begun c (object o) = 0 < c .last
 Begun c (play p) = 0 < c .last
-
-and-left : (a b : Bool) → (a && b) ≡ true → a ≡ true
-and-left true b e = refl
-and-left false b e = e
 
 begun : (c : Counts) (m : ℕ) (x : Content) → placeOf x ≡ rankOf m → inOrder (c .last) (rankOf m) ≡ true → Begun c x
 begun c m (header s) p q = tt

@@ -16,9 +16,7 @@ use Rattle.records.specs.declared.file.Reader.{Reader}
 use Rattle.records.specs.declared.file.Step.the-variants as step
 use Rattle.records.proofs.All.{All, none, that}
 use Rattle.records.proofs.Sizes.{Sized}
-
-never : {A : Type 0} → _≡_ {A = ℕ} 0 1 → A
-never e = absurd (omega arith)
+use Rattle.records.proofs.Laws.{never}
 
 pub rest-is : (s : List ℕ) (at : ℕ) → take (length s - at) (drop at s) ≡ drop at s
 rest-is s at = let h : length (drop at s) ≤ length s - at = simp length-drop (omega arith) in take-all (length s - at) (drop at s) h

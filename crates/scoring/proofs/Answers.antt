@@ -26,9 +26,7 @@ use Rattle.scoring.specs.declared.score.MapScore.the-variants as map·sc
 use Rattle.scoring.specs.declared.score.GivenPlay.{GivenPlay}
 use Rattle.scoring.specs.declared.score.GivenPlay.the-variants as given
 use Rattle.scoring.specs.declared.score.ListedPlay.the-variants as listed
-
-never : {A : Type 0} → _≡_ {A = ℕ} 0 1 → A
-never e = absurd (omega arith)
+use Rattle.records.proofs.Laws.{never}
 
 -- ---- a play on what the file before it holds
 pub in-refused : (r : Result) (p : Play) (n at : ℕ) → simulated.Refused n at ≡ simulatedOf r (p .«passed_objects») → scored.Refused n ≡ scoredIn r p

@@ -48,9 +48,7 @@ use Rattle.scoring.specs.declared.plays.Walked.the-variants as walked
 use Rattle.scoring.specs.declared.plays.RecordScore.the-variants as record·score
 use Rattle.scoring.specs.declared.plays.Plays.the-variants as answer
 use Rattle.scoring.proofs.Lists.{scores-none, scores-more, scores-refused, refused-more, wanted-more}
-
-never : {A : Type 0} → _≡_ {A = ℕ} 0 1 → A
-never e = absurd (omega arith)
+use Rattle.records.proofs.Laws.{never}
 
 counts-last : (f : File) → countsOf f .last ≡ f .last
 unfolding countsOf

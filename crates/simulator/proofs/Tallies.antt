@@ -44,9 +44,7 @@ use Rattle.simulator.proofs.Objects.{walk-circle, walk-slider, walk-spi
 use Rattle.simulator.proofs.Bonus.{legacy-most, standardised-most, nested-legacy}
 use Rattle.simulator.proofs.Passed.{sums-same}
 use Rattle.simulator.proofs.Summing.{FewIn, object-few}
-
-never : {A : Type 0} → _≡_ {A = ℕ} 0 1 → A
-never e = absurd (omega arith)
+use Rattle.records.proofs.Laws.{never}
 
 kept : (k : Kind) → kindBonusIn (kindView k) ≡ kindBonus k
 kept circle = refl

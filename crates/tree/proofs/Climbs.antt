@@ -18,9 +18,7 @@ use Rattle.tree.specs.Put.{besideOf, aboveOf, climbed, putOf, orElse}
 use Rattle.tree.specs.declared.Combined.the-variants as combined
 use Rattle.tree.specs.declared.Put.{Put}
 use Rattle.tree.specs.declared.Put.the-variants as put
-
-never : {A : Type 0} → _≡_ {A = ℕ} 0 1 → A
-never e = absurd (omega arith)
+use Rattle.records.proofs.Laws.{never}
 
 -- the pair of e and the entry beside it
 pub beside-pair : (e : ℕ) → besideOf e / 2 ≡ e / 2

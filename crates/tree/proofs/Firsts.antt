@@ -20,9 +20,7 @@ use Rattle.tree.specs.declared.Prefix.{Prefix}
 use Rattle.tree.specs.declared.Turned.{Turned}
 use Rattle.tree.specs.declared.Turned.the-variants as turned
 use Rattle.tree.proofs.Climbs.{limited-in}
-
-never : {A : Type 0} → _≡_ {A = ℕ} 0 1 → A
-never e = absurd (omega arith)
+use Rattle.records.proofs.Laws.{never}
 
 pub none-in : inLimits none ≡ true
 unfolding inLimits

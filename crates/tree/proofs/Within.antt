@@ -9,10 +9,10 @@ use native.Mathlib.Nat.{not-suc-le-zero}
 use native.Mathlib.Decide.{ℕ-discrete}
 use lib.Arith.{bin-ind}
 use lib.ListN.{getD}
-use Rattle.records.specs.Objects.{Object, Kind, circle, slider, spinner}
-use Rattle.simulator.specs.Combo.{firstNoSlider}
+use Rattle.records.specs.Objects.{Object}
 use Rattle.entries.specs.Entry.{joined, entryOf, wordsOf, limitList, inLimits}
 use Rattle.entries.specs.declared.entry.Entry.{Entry}
+use Rattle.entries.proofs.Accepted.{entry-first}
 use Rattle.entries.proofs.Limits.{word-le, within-of}
 use Rattle.tree.specs.Board.{covered, entryIn}
 use Rattle.tree.proofs.Covers.{entry-node, even, odd}
@@ -52,16 +52,6 @@ module _ (a b : Entry) where
   pub parts-in : a .«first_no_slider» ≤ 1 → b .«first_no_slider» ≤ 1 → inLimits (joined a b) ≡ true → (inLimits a ≡ true) × (inLimits b ≡ true)
   parts-in fa fb h = (part-in a (λ i l n. both i l n .0) fa h, part-in b (λ i l n. both i l n .1) fb h)
 
-first-most : (os : List Object) → entryOf os .«first_no_slider» ≤ 1
-unfolding entryOf
-first-most [] = omega arith
-first-most (o ∷ os) = kind-most (o .kind)
-  where
-    kind-most : (k : Kind) → firstNoSlider (record { start = o .start; kind = k } ∷ os) ≤ 1
-    kind-most circle = omega arith
-    kind-most (slider is) = omega arith
-    kind-most (spinner d) = omega arith
-
 pub all-in : (l : ℕ) (os : List Object) → inLimits (entryIn l os 1) ≡ true → (x : ℕ) → 1 ≤ x → x < 2 * 2 ^ l → inLimits (entryIn l os x) ≡ true
 unfolding entryIn
 all-in l os top = bin-ind (λ x. 1 ≤ x → x < 2 * 2 ^ l → inLimits (entryIn l os x) ≡ true) (λ h g. absurd (not-suc-le-zero h)) step
@@ -71,7 +61,7 @@ all-in l os top = bin-ind (λ x. 1 ≤ x → x < 2 * 2 ^ l → inLimits (entryIn
       where
         halves : x ≢ 1 → (inLimits (entryIn l os (2 * (x / 2))) ≡ true) × (inLimits (entryIn l os (2 * (x / 2) + 1)) ≡ true)
         halves ne =
-            parts-in _ _ (first-most _) (first-most _)
+            parts-in _ _ (entry-first _) (entry-first _)
             (subst (λ (e : Entry). inLimits e ≡ true) (entry-node l os (x / 2) (omega arith) (omega arith)) (ih (omega arith) (omega arith)))
 
         go : Dec (x ≡ 1) → Dec (x % 2 ≡ 0) → inLimits (entryIn l os x) ≡ true

@@ -44,7 +44,7 @@ halved x w = subst (λ (m : ℕ). m ≤ x * w) (sym (mul-assoc x 2 (w / 2))) (mu
 
 -- ---- one level of the definition
 module _ (b : List ℕ) (x p : ℕ) (a : Entry) where
-  skips : (n : ℕ) → 0 < n → p < 2 ^ (n - 1) → walked n b x p a ≡ walked (n - 1) b (x * 2) p a
+  pub skips : (n : ℕ) → 0 < n → p < 2 ^ (n - 1) → walked n b x p a ≡ walked (n - 1) b (x * 2) p a
   unfolding walked
   skips zero h g = absurd (not-suc-le-zero h)
   skips (suc n) h g =
@@ -52,7 +52,7 @@ module _ (b : List ℕ) (x p : ℕ) (a : Entry) where
       let g′ : p < 2 ^ n = rw z at g in
       rw (z, lt-leb _ _ g′)
 
-  takes : (n : ℕ) (u : Entry) → 0 < n → 2 ^ (n - 1) ≤ p → afterOf a (entryAt b x) ≡ good u → walked n b x p a ≡ walked (n - 1) b ((x + 1) * 2) (p - 2 ^ (n - 1)) u
+  pub takes : (n : ℕ) (u : Entry) → 0 < n → 2 ^ (n - 1) ≤ p → afterOf a (entryAt b x) ≡ good u → walked n b x p a ≡ walked (n - 1) b ((x + 1) * 2) (p - 2 ^ (n - 1)) u
   unfolding walked _>>=_
   takes zero u h g q = absurd (not-suc-le-zero h)
   takes (suc n) u h g q =

@@ -3,3 +3,5 @@ pub mod Climbs
 pub mod Firsts
 pub mod Covers
 pub mod Within
+pub mod Honest
+pub mod FirstRight

@@ -100,6 +100,6 @@ step-counted n c (spinner d) g w = record {
   spun = let e = w .spun in omega (arith, nested-legacy d, legacy-most d);
 }
 
--- the combo points of 8,192 objects at a multiplier up to 7 fit a word
-pub product-fits : (p m : ℕ) → p ≤ 12 * 8200192 * 8192 → m ≤ 7 → p * m < 2 ^ 64
+-- the combo points at a multiplier up to 7 fit a word
+pub product-fits : (p m : ℕ) → p ≤ 12 * 137438953473 → m ≤ 7 → p * m < 2 ^ 64
 product-fits p m h k = lt-of-le-of-lt (mul-le-mul h k) (lit< tt)

@@ -17,6 +17,12 @@ pub record Within (n : ℕ) (st : State) : Type 0 where
   pub legacy : st .«legacy_bonus_score» .0 ≤ 1100 * 2 ^ 31 * n
   pub standardised : st .«standardised_bonus_score» .0 ≤ 50 * 2 ^ 31 * n
 
+-- what the attributes ask of a state, so that its combo has 32 bits and its combo points times a multiplier 64: the most that document 01's limits
+-- admit in an entry of the board (k, and 12 × (s + f))
+pub record Bounded (st : State) : Type 0 where
+  pub combo : st .combo ≤ 8200192
+  pub points : st .«combo_score» ≤ 12 * 137438953473
+
 pub record Counted (n : ℕ) (c : NestedScorePerObject) : Type 0 where
   pub objects : c .«object_count» ≤ n
   pub circles : c .«n_circles» ≤ n

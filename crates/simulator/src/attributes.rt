@@ -7,7 +7,7 @@ use std::num::nearest_u64_to_f64;
 ghost use mathlib.Core.Path.{_≡_};
 ghost use Prim.Native.Nat.{_≤_};
 ghost use Rattle.simulator.specs.Attributes.{difficultyAttributesOf, scoreAttributesOf};
-ghost use Rattle.simulator.specs.Limits.{Within, Counted};
+ghost use Rattle.simulator.specs.Limits.{Bounded, Counted};
 ghost use Rattle.simulator.specs.View.{times};
 
 // What the estimates take.
@@ -37,7 +37,7 @@ fn difficulty_attributes(
     nested: NestedScorePerObject,
     multiplier: u64,
 ) -> OsuDifficultyAttributes
-    requires { ⌜ Within 8192 score × Counted 8192 nested × (multiplier ≤ 7) ⌝ }
+    requires { ⌜ Bounded score × Counted 8192 nested × (multiplier ≤ 7) ⌝ }
     ensures { λ r. ⌜ r ≡ difficultyAttributesOf (times multiplier score) nested multiplier ⌝ }
 {
     OsuDifficultyAttributes {
@@ -58,7 +58,7 @@ pub fn score_attributes(
     nested: NestedScorePerObject,
     multiplier: u64,
 ) -> ScoreAttributes
-    requires { ⌜ Within 8192 score × Counted 8192 nested × (multiplier ≤ 7) ⌝ }
+    requires { ⌜ Bounded score × Counted 8192 nested × (multiplier ≤ 7) ⌝ }
     ensures { λ r. ⌜ r ≡ scoreAttributesOf (times multiplier score) nested multiplier ⌝ }
 {
     let standardised_bonus_score = score.standardised_bonus_score;

@@ -11,7 +11,7 @@ ghost use Prim.Native.Nat.{_+_, _-_, _*_, _≤_};
 ghost use Rattle.simulator.specs.Hits.{hitsOf};
 ghost use Rattle.simulator.specs.Walk.{walk, fresh};
 ghost use Rattle.simulator.specs.Attributes.{bonusRatioOf, legacyAttributesOf};
-ghost use Rattle.simulator.specs.Limits.{Within, nestedCount};
+ghost use Rattle.simulator.specs.Limits.{Within, Bounded, nestedCount};
 ghost use Rattle.simulator.specs.View.{kindOf, times};
 
 pub struct OsuLegacyScoreSimulator {
@@ -128,7 +128,7 @@ impl OsuLegacyScoreSimulator {
 
     // The attributes with the multiplier of the map.
     pub fn finalize(self, multiplier: u64) -> LegacyScoreAttributes
-        requires { ⌜ Within 8192 self × (multiplier ≤ 7) ⌝ }
+        requires { ⌜ Bounded self × (multiplier ≤ 7) ⌝ }
         ensures { λ r. ⌜ r ≡ legacyAttributesOf (times multiplier self) ⌝ }
     {
         let bonus_score = self.legacy_bonus_score;

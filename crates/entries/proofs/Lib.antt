@@ -3,3 +3,4 @@ pub mod Runs
 pub mod WordLaws
 pub mod Accepted
 pub mod Scores
+pub mod Sound

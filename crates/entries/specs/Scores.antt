@@ -1,5 +1,7 @@
 -- What the words of an entry say of its objects' score: the running state behind them, at multiplier 1, and their counts.
 use Prim.Native.Nat.{ℕ, _+_, _-_, _*_}
+use mathlib.Core.Bool.{Bool, _||_}
+use lib.Dec.{ltb}
 use Rattle.simulator.specs.Walk.{State}
 use Rattle.simulator.specs.declared.legacy_score.NestedScorePerObject.{NestedScorePerObject}
 use Rattle.entries.specs.declared.entry.Entry.{Entry}
@@ -24,3 +26,7 @@ countsIn e = record {
   «amount_of_small_ticks» = e .«n_ticks»;
   «spinner_score» = e .«spinner_score»;
 }
+
+-- "13: .. a read's combined k is below 2 × sliders or its s + f below q": no objects have such words
+unfoldable pub unsound : Entry → Bool
+unsound e = ltb (e .combo) (2 * e .«n_sliders») || ltb (e .«combos_before» + e .«first_no_slider») (e .«object_count»)

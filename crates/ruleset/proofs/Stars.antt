@@ -19,8 +19,8 @@ use Rattle.numbers.specs.Floats.{whole}
 use Rattle.numbers.specs.MinMax.{clampOf}
 use Rattle.numbers.specs.Rounding.{roundTiesEvenI32, saturated}
 use Rattle.numbers.proofs.Bounds.{Upto, mul-upto, div-upto, add-upto, of-tests, of-itself}
-use Rattle.ruleset.specs.Stars.{ratioOf, starsOf, multiplierOf}
-use Rattle.encoding.specs.Limits.{IsSetting, SettingsWithin}
+use Rattle.ruleset.specs.Stars.{SettingIn, SettingsIn, ratioOf, starsOf, multiplierOf}
+use Rattle.encoding.specs.Limits.{SettingsWithin}
 use Rattle.records.specs.declared.beatmap.Settings.{Settings}
 
 -- ---- no NaN
@@ -132,12 +132,16 @@ round-upto (fin false m e) M E h =
 abbrev twelve : Float
 twelve = fin false 3 (pos 2)
 
-setting : (x : Float) → IsSetting x → Upto x twelve
+setting : (x : Float) → SettingIn x → Upto x twelve
 unfolding ofBits
-setting x w = of-tests x twelve tt (subst T (sym (w .above)) tt) (subst T (sym (w .below)) tt)
+setting x w = of-tests x twelve tt (subst T (sym (w .0)) tt) (subst T (sym (w .1)) tt)
+
+-- those of a file are
+pub settings-in : (s : Settings) → SettingsWithin s → SettingsIn s
+settings-in s w = record { hp = (w .hp .above, w .hp .below); od = (w .od .above, w .od .below); cs = (w .cs .above, w .cs .below) }
 
 -- the stars of settings in their range: a number from 0 to 7
-pub stars-upto : (s : Settings) (k : ℕ) (z : ℤ) → SettingsWithin s → k ≤ 2 ^ 53 → mag z < 2 ^ 53 → (n : ℕ) × (starsOf s k z ≡ pos n) × (n ≤ 7)
+pub stars-upto : (s : Settings) (k : ℕ) (z : ℤ) → SettingsIn s → k ≤ 2 ^ 53 → mag z < 2 ^ 53 → (n : ℕ) × (starsOf s k z ≡ pos n) × (n ≤ 7)
 unfolding starsOf add mul div ofInt
 stars-upto s k z r f g =
     let a = setting (s .hp) (r .hp) in
@@ -155,9 +159,9 @@ stars-upto s k z r f g =
     let v = round-upto (mul binary64 (div binary64 total (whole 38)) (whole 5)) 7703525678396901 (negsuc 49) last in
     (v .0, v .1, le-trans (v .2) (lit≤ tt))
 
-pub seven : (s : Settings) (k : ℕ) (z : ℤ) → SettingsWithin s → k ≤ 2 ^ 53 → mag z < 2 ^ 53 → multiplierOf s k z ≤ 7
+pub seven : (s : Settings) (k : ℕ) (z : ℤ) → SettingsIn s → k ≤ 2 ^ 53 → mag z < 2 ^ 53 → multiplierOf s k z ≤ 7
 seven s k z r f g = let v = stars-upto s k z r f g in subst (λ (x : ℤ). natAbs x ≤ 7) (sym (v .1)) (v .2)
 
 -- so the multiplier is the Rust's stars
-pub stars-is : (s : Settings) (k : ℕ) (z : ℤ) → SettingsWithin s → k ≤ 2 ^ 53 → mag z < 2 ^ 53 → starsOf s k z ≡ pos (multiplierOf s k z)
+pub stars-is : (s : Settings) (k : ℕ) (z : ℤ) → SettingsIn s → k ≤ 2 ^ 53 → mag z < 2 ^ 53 → starsOf s k z ≡ pos (multiplierOf s k z)
 stars-is s k z r f g = let v = stars-upto s k z r f g in subst (λ (x : ℤ). x ≡ pos (natAbs x)) (sym (v .1)) refl

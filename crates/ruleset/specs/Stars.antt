@@ -1,8 +1,10 @@
 -- Document 01, "Multiplier": `calculate_difficulty_peppy_stars`, each operation rounded once, in the Rust's order.
 use Prim.Native.Nat.{ℕ, zero, suc}
+use mathlib.Core.Path.{_≡_}
+use mathlib.Core.Bool.{true}
 use lib.IntN.{ℤ, pos, negsuc, natAbs}
 use lib.ListN.{length, take}
-use lib.Ieee.{Float, binary64, ofInt}
+use lib.Ieee.{Float, binary32, binary64, ofBits, ofInt, le}
 use Rattle.numbers.specs.Floats.{whole, _⊕_, _⊗_, _⊘_}
 use Rattle.numbers.specs.MinMax.{clampOf}
 use Rattle.numbers.specs.Rounding.{roundTiesEvenI32}
@@ -19,6 +21,15 @@ ratioOf count (negsuc n) = clampOf (whole count ⊘ ofInt binary64 (negsuc n) �
 -- "hp, od and cs are the given settings, widened exactly"
 unfoldable pub starsOf : Settings → ℕ → ℤ → ℤ
 starsOf s count drain = roundTiesEvenI32 ((s .hp ⊕ s .od ⊕ s .cs ⊕ ratioOf count drain) ⊘ whole 38 ⊗ whole 5)
+
+-- "three floats of 32 bits, each from 0 to 12"
+abbrev pub SettingIn : Float → Type 0
+SettingIn x = (le (ofBits binary32 0) x ≡ true) × (le x (ofBits binary32 0x41400000) ≡ true)
+
+pub record SettingsIn (s : Settings) : Type 0 where
+  pub hp : SettingIn (s .hp)
+  pub od : SettingIn (s .od)
+  pub cs : SettingIn (s .cs)
 
 -- the stars as a count: settings within their limits give 0 to 7
 abbrev pub multiplierOf : Settings → ℕ → ℤ → ℕ

@@ -9,9 +9,8 @@ ghost use Prim.Native.Nat.{_+_, _≤_, _<_, _^_};
 ghost use lib.IntN.{_+ℤ_};
 ghost use lib.ListN.{length};
 ghost use lib.Signed.{mag};
-ghost use Rattle.encoding.specs.Limits.{SettingsWithin};
 ghost use Rattle.ruleset.specs.Drain.{lengthOf, breaksLength, breaksOf, breaksIn, drainOf};
-ghost use Rattle.ruleset.specs.Stars.{multiplierOf};
+ghost use Rattle.ruleset.specs.Stars.{SettingsIn, multiplierOf};
 
 // The bytes of a map file's header and of each break record behind it.
 const HEADER_BYTES: usize = 14;
@@ -84,7 +83,7 @@ pub fn drain_len(first_start: f64, last_start: f64, breaks: i64) -> i64
 }
 
 pub fn score_multiplier(settings: Settings, object_count: u64, drain_len: i64) -> u64
-    requires { ⌜ SettingsWithin settings × («object_count» ≤ 2 ^ 53) × (mag «drain_len» < 2 ^ 53) ⌝ }
+    requires { ⌜ SettingsIn settings × («object_count» ≤ 2 ^ 53) × (mag «drain_len» < 2 ^ 53) ⌝ }
     ensures { λ r. ⌜ (r ≡ multiplierOf settings «object_count» «drain_len») × (r ≤ 7) ⌝ }
 {
     calculate_difficulty_peppy_stars(settings, object_count, drain_len) as u64

@@ -37,15 +37,6 @@ pub in-map : (r : Result) (p : Play) (a : ScoreAttributes) (x : Scored) → simu
 in-map (accepted f) p a x e q = let k : a ≡ scoreAttributesAt (f .map) (p .«passed_objects») = cc in q ∙ ap (λ b. scoredOf (playScore p b)) k
 in-map (refusedAt m o f) p a x e q = never (cc)
 
--- ---- a play that is given beside a file
-pub given-refused : (x : Checked PlayScore) (n : ℕ) → scored.Refused n ≡ scoredOf x → given.Refused n 0 ≡ givenAnswer x
-given-refused (refused m) n e = let k : n ≡ m = cc in ap (λ (i : ℕ). given.Refused i 0) k
-given-refused (good s) n e = never (cc)
-
-pub given-score : (x : Checked PlayScore) (s : PlayScore) → scored.Score s ≡ scoredOf x → given.Score s ≡ givenAnswer x
-given-score (refused m) s e = never (cc)
-given-score (good t) s e = let k : s ≡ t = cc in ap given.Score k
-
 -- ---- a file that gets no number
 pub record NoNumber (s : List ℕ) (sc : Scores) : Type 0 where
   pub file : File

@@ -7,8 +7,10 @@ use Rattle.records.specs.File.{Map, Result, accepted, refusedAt}
 use Rattle.records.specs.declared.play.Play.{Play}
 use Rattle.simulator.specs.Attributes.{scoreAttributesAt}
 use Rattle.simulator.specs.declared.attributes.ScoreAttributes.{ScoreAttributes}
-use Rattle.scoring.specs.PlayRules.{modsBad, playScore}
+use Rattle.scoring.specs.PlayRules.{modsBad, playScore, scoredOf}
 use Rattle.scoring.specs.declared.play_score.PlayScore.{PlayScore}
+use Rattle.scoring.specs.declared.play_score.Scored.{Scored}
+use Rattle.scoring.specs.declared.play_score.Scored.the-variants as scored
 use Rattle.scoring.specs.declared.score.MapScore.{MapScore}
 use Rattle.scoring.specs.declared.score.MapScore.the-variants as map·score
 use Rattle.scoring.specs.declared.score.GivenPlay.{GivenPlay}
@@ -56,9 +58,12 @@ mapScoreOf (refusal n at) = map·score.Refused n at
 mapScoreOf (values s) = map·score.Map (scoreAttributesAt (s .map) (length (s .map .objects)))
 
 -- a play that is given beside the file has no offset
+abbrev pub givenOf : Scored → GivenPlay
+givenOf (scored.Refused n) = given.Refused n 0
+givenOf (scored.Score s) = given.Score s
+
 abbrev pub givenAnswer : Checked PlayScore → GivenPlay
-givenAnswer (refused n) = given.Refused n 0
-givenAnswer (good s) = given.Score s
+givenAnswer x = givenOf (scoredOf x)
 
 -- "The checks of one record run: .. fixed fields in layout order (4 or 8 ..) ..; a play then 9 and 10"
 unfoldable pub givenScore : Play → ScoreAttributes → Checked PlayScore

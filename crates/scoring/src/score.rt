@@ -10,7 +10,7 @@ use records::play::Play;
 use simulator::attributes::ScoreAttributes;
 ghost use mathlib.Core.Path.{_≡_};
 ghost use Rattle.records.specs.File.{fileOf};
-ghost use Rattle.scoring.specs.Scores.{scoresOf, mapScoreOf, givenAnswer, givenScore, givenPlayOf, listedPlayOf};
+ghost use Rattle.scoring.specs.Scores.{scoresOf, mapScoreOf, givenOf, givenAnswer, givenScore, givenPlayOf, listedPlayOf};
 
 pub enum MapScore {
     Map(ScoreAttributes),
@@ -39,6 +39,15 @@ pub fn score_map(s: &[u8]) -> MapScore
 }
 
 // A play that is not in the file has no offset: its refusals are at 0.
+pub fn given(scored: Scored) -> GivenPlay
+    ensures { λ r. ⌜ r ≡ givenOf scored ⌝ }
+{
+    match scored {
+        Scored::Refused(number) => GivenPlay::Refused { number, offset: 0 },
+        Scored::Score(score) => GivenPlay::Score(score),
+    }
+}
+
 fn score_given(play: Play, a: ScoreAttributes) -> GivenPlay
     ensures { λ r. ⌜ r ≡ givenAnswer (givenScore play a) ⌝ }
 {
@@ -49,10 +58,7 @@ fn score_given(play: Play, a: ScoreAttributes) -> GivenPlay
             offset: 0,
         };
     }
-    match score_on(play, a) {
-        Scored::Refused(number) => GivenPlay::Refused { number, offset: 0 },
-        Scored::Score(score) => GivenPlay::Score(score),
-    }
+    given(score_on(play, a))
 }
 
 // The score of a play on a map file.

@@ -4,6 +4,7 @@ use Prim.Native.Nat.{ℕ}
 use native.Mathlib.Omega.{arith}
 use Rattle.ruleset.specs.Stars.{multiplierOf}
 use Rattle.ruleset.proofs.Signs.{kept}
+use Rattle.ruleset.proofs.Stars.{settings-in}
 use Rattle.simulator.specs.Attributes.{scoreAttributesOf}
 use Rattle.simulator.specs.View.{times}
 use borrow.Author.Needs.{needs}
@@ -14,7 +15,9 @@ drain-in-requires : tie.Need-drain-in-requires
 drain-in-requires c κs = search needs
 
 score-multiplier-requires : tie.Need-score-multiplier-requires
-score-multiplier-requires c κs = search needs
+score-multiplier-requires c κs =
+    let start = c .before .before in
+    (settings-in (start .args .reader .settings) (start .pre .0), search needs, search needs)
 
 score-attributes-requires : tie.Need-score-attributes-requires
 score-attributes-requires c κs = search needs

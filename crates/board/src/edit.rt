@@ -1,0 +1,88 @@
+// Another object at a place of a map.
+use crate::place::Room;
+use crate::place::Written;
+use crate::place::put_at;
+use crate::place::room_for;
+use entries::entry::Entry;
+use numbers::words::word_at;
+use records::hit_object::HitObject;
+use records::hit_object::read_object;
+use records::record::Read;
+use records::record::Record;
+use tree::Put;
+ghost use mathlib.Core.Path.{_≡_};
+ghost use Rattle.board.specs.Place.{writtenOf, writtenLeft};
+ghost use Rattle.board.specs.Edit.{objectIn, aloneOf, editOf};
+
+// The object of a record that stands alone, or the number of what is wrong with it.
+pub enum Alone {
+    Is(HitObject),
+    Refused(u8),
+}
+
+// One object's record and nothing behind it.
+pub fn read_alone(r: &[u8]) -> Alone
+    ensures { λ x. ⌜ x ≡ aloneOf (objectIn (now (r .entry))) ⌝ }
+{
+    if r.len() == 0 {
+        return Alone::Refused(3);
+    }
+    if r.len() < 2 {
+        return Alone::Refused(2);
+    }
+    match read_object(r, word_at(r, 0, 2)) {
+        Read::Refused(number) => Alone::Refused(number),
+        Read::Good(item, size) => {
+            let Record::Object(object) = item else {
+                return Alone::Refused(3);
+            };
+            if size < r.len() {
+                return Alone::Refused(3);
+            }
+            Alone::Is(object)
+        }
+    }
+}
+
+fn written(put: Put) -> Written
+    ensures { λ r. ⌜ r ≡ writtenOf put ⌝ }
+{
+    match put {
+        Put::Done => Written::Done,
+        Put::Refused(number) => Written::Refused { number, offset: 0 },
+    }
+}
+
+// Puts the object of a record at a place of a board for `count` objects.
+pub fn edit(
+    board: &mut [u64],
+    starts: &mut [f64],
+    count: usize,
+    place: usize,
+    record: &[u8],
+) -> Written
+    ensures { λ r. ⌜ (r, now (board .exit), now (starts .exit)) ≡ writtenLeft (editOf (now (board .entry)) (now (starts .entry)) count place (now (record .entry))) (now (board .entry)) (now (starts .entry)) ⌝ }
+{
+    match room_for(board, starts, count) {
+        Room::Refused(number) => Written::Refused { number, offset: 0 },
+        Room::Is(size) => {
+            if count <= place {
+                return Written::Refused {
+                    number: 12,
+                    offset: 0,
+                };
+            }
+            match read_alone(record) {
+                Alone::Refused(number) => Written::Refused { number, offset: 0 },
+                Alone::Is(object) => written(put_at(
+                    board,
+                    starts,
+                    size,
+                    place,
+                    Entry::own(object),
+                    object.start_time,
+                )),
+            }
+        }
+    }
+}

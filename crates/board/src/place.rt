@@ -1,0 +1,65 @@
+// Room for a map's board and start table, and an entry and a start put at a place of them.
+use entries::entry::Entry;
+use records::hit_object::HitObject;
+use tree::Put;
+use tree::Size;
+use tree::climb;
+use tree::size_of;
+ghost use mathlib.Core.Path.{_≡_};
+ghost use mathlib.Core.Bool.{true};
+ghost use Prim.Native.Nat.{_*_, _≤_, _<_};
+ghost use lib.ListN.{length};
+ghost use Rattle.entries.specs.Entry.{inLimits};
+ghost use Rattle.board.specs.Place.{roomFor, roomOf, putAt, putLeft};
+
+// What a build or an edit answers.
+pub enum Written {
+    Done,
+    Refused { number: u8, offset: usize },
+}
+
+// The size of the board, or the number of what is wrong.
+pub enum Room {
+    Is(Size),
+    Refused(u8),
+}
+
+// The words of an entry and of the one beside it, for each place of a board.
+const PLACE_WORDS: usize = 2 * Entry::WORDS;
+
+pub fn room_for(board: &[u64], starts: &[f64], count: usize) -> Room
+    ensures { λ r. ⌜ r ≡ roomOf count (roomFor (now (board .entry)) (now (starts .entry)) count) ⌝ }
+{
+    if HitObject::MAX_COUNT as usize < count {
+        return Room::Refused(6);
+    }
+    let size = size_of(count);
+    if board.len() < PLACE_WORDS * size.cap {
+        return Room::Refused(11);
+    }
+    if starts.len() < count {
+        return Room::Refused(11);
+    }
+    Room::Is(size)
+}
+
+// Puts an entry within the limits, with what follows from it above, and a start. Nothing is written before the last check.
+pub fn put_at(
+    board: &mut [u64],
+    starts: &mut [f64],
+    size: Size,
+    place: usize,
+    entry: Entry,
+    start: f64,
+) -> Put
+    requires { ⌜ (place < size .cap) × (26 * size .cap ≤ length (now board)) × (place < length (now starts)) × (inLimits entry ≡ true) ⌝ }
+    ensures { λ r. ⌜ (r, now (board .exit), now (starts .exit)) ≡ putLeft (putAt size place entry start (now (board .entry)) (now (starts .entry))) (now (board .entry)) (now (starts .entry)) ⌝ }
+{
+    match climb(board, size.levels, size.cap + place, entry) {
+        Put::Refused(number) => Put::Refused(number),
+        Put::Done => {
+            starts[place] = start;
+            Put::Done
+        }
+    }
+}

@@ -1,0 +1,24 @@
+-- What the last check of a read leaves: k is at least 2 × sliders, and s + f at least q.
+use Prim.Native.Nat.{ℕ, _+_, _*_, _≤_}
+use mathlib.Core.Path.{_≡_, refl, sym, ap}
+use mathlib.Core.Bool.{Bool, true, false, _||_}
+use borrow.Author.Tests.{ltb-false, le-ltb}
+use lib.Dec.{ltb}
+use Rattle.entries.specs.Scores.{unsound}
+use Rattle.entries.specs.declared.entry.Entry.{Entry}
+use Rattle.records.proofs.Laws.{never}
+
+neither : (a b : Bool) → (a || b) ≡ false → (a ≡ false) × (b ≡ false)
+neither true b e = never (cc)
+neither false b e = (refl, e)
+
+pub sound : (e : Entry) → unsound e ≡ false → (2 * e .«n_sliders» ≤ e .combo) × (e .«object_count» ≤ e .«combos_before» + e .«first_no_slider»)
+unfolding unsound
+sound e h =
+    let k = neither (ltb (e .combo) (2 * e .«n_sliders»)) (ltb (e .«combos_before» + e .«first_no_slider») (e .«object_count»)) h in
+    (ltb-false (e .combo) (2 * e .«n_sliders») (k .0), ltb-false (e .«combos_before» + e .«first_no_slider») (e .«object_count») (k .1))
+
+-- where k is high enough, s decides
+pub by-before : (e : Entry) → 2 * e .«n_sliders» ≤ e .combo → ltb (e .«combos_before» + e .«first_no_slider») (e .«object_count») ≡ unsound e
+unfolding unsound
+by-before e h = sym (ap (λ (t : Bool). t || ltb (e .«combos_before» + e .«first_no_slider») (e .«object_count»)) (le-ltb (e .combo) (2 * e .«n_sliders») h))

@@ -5,3 +5,4 @@ pub mod Covers
 pub mod Within
 pub mod Honest
 pub mod FirstRight
+pub mod Builds

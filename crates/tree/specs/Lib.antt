@@ -3,3 +3,4 @@ pub mod Size
 pub mod Put
 pub mod First
 pub mod Board
+pub mod Build

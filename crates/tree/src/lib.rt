@@ -1,4 +1,6 @@
 // The tree of entries in a lent slice of words: entry e above 2e and 2e + 1, the places' own entries at its bottom.
+pub mod build;
+
 use entries::entry::Entry;
 use entries::words::load;
 use entries::words::store;

@@ -6,3 +6,4 @@ pub mod Within
 pub mod Honest
 pub mod FirstRight
 pub mod Builds
+pub mod BuildRight

@@ -1,5 +1,6 @@
 -- Document 01, "What a caller gets" and "The board": room for a map's board and start table, and an entry and a start put at a place of them.
-use Prim.Native.Nat.{ℕ, _+_, _*_}
+use Prim.Native.Nat.{ℕ, _+_, _*_, _≤_}
+use mathlib.Core.Path.{_≡_}
 use mathlib.Core.List.{List}
 use lib.Dec.{ltb}
 use lib.Ieee.{Float}
@@ -26,6 +27,14 @@ roomFor b ts n = do
 abbrev pub roomOf : ℕ → Checked (Unit {0}) → Room
 roomOf n (refused k) = room.Refused k
 roomOf n (good _) = room.Is (record { levels = levelsOf n; cap = capOf n })
+
+-- the size for n objects, with room for them in both slices
+pub record Holds (size : Size) (n : ℕ) (b : List ℕ) (ts : List Float) : Type 0 where
+  pub levels : size .levels ≡ levelsOf n
+  pub cap : size .cap ≡ capOf n
+  pub few : n ≤ 8192
+  pub words : 26 * capOf n ≤ length b
+  pub numbers : n ≤ length ts
 
 -- both slices, with an entry and what follows from it above, and a start
 unfoldable pub putAt : Size → ℕ → Entry → Float → List ℕ → List Float → Checked (List ℕ × List Float)

@@ -59,9 +59,9 @@ pub fn edit(
     starts: &mut [f64],
     count: usize,
     place: usize,
-    record: &[u8],
+    bytes: &[u8],
 ) -> Written
-    ensures { λ r. ⌜ (r, now (board .exit), now (starts .exit)) ≡ writtenLeft (editOf (now (board .entry)) (now (starts .entry)) count place (now (record .entry))) (now (board .entry)) (now (starts .entry)) ⌝ }
+    ensures { λ r. ⌜ (r, now (board .exit), now (starts .exit)) ≡ writtenLeft (editOf (now (board .entry)) (now (starts .entry)) count place (now (bytes .entry))) (now (board .entry)) (now (starts .entry)) ⌝ }
 {
     match room_for(board, starts, count) {
         Room::Refused(number) => Written::Refused { number, offset: 0 },
@@ -72,7 +72,7 @@ pub fn edit(
                     offset: 0,
                 };
             }
-            match read_alone(record) {
+            match read_alone(bytes) {
                 Alone::Refused(number) => Written::Refused { number, offset: 0 },
                 Alone::Is(object) => written(put_at(
                     board,

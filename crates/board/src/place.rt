@@ -30,7 +30,7 @@ const PLACE_WORDS: usize = 2 * Entry::WORDS;
 pub fn room_for(board: &[u64], starts: &[f64], count: usize) -> Room
     ensures { λ r. ⌜ r ≡ roomOf count (roomFor (now (board .entry)) (now (starts .entry)) count) ⌝ }
 {
-    if HitObject::MAX_COUNT as usize < count {
+    if (HitObject::MAX_COUNT as usize) < count {
         return Room::Refused(6);
     }
     let size = size_of(count);

@@ -29,7 +29,9 @@ ghost use lib.ListN.{length};
 ghost use lib.Signed.{mag};
 ghost use Rattle.entries.specs.Entry.{inLimits};
 ghost use Rattle.entries.specs.Scores.{unsound};
+ghost use Rattle.ruleset.specs.Stars.{SettingsIn};
 ghost use Rattle.scoring.specs.Scores.{givenAnswer};
+ghost use Rattle.board.specs.Place.{Holds};
 ghost use Rattle.board.specs.Read.{settingBad, settingsBad, timesBad, argumentsBad, drainFrom, attributesFrom, scoreFrom, readOf};
 
 // A start and an end for each break.
@@ -122,6 +124,7 @@ fn read_in(
     breaks: &[f64],
     play: Play,
 ) -> GivenPlay
+    requires { ⌜ Holds size count (now board) (now starts) × (length (now breaks) ≤ 256) × SettingsIn settings ⌝ }
     ensures { λ r. ⌜ r ≡ givenAnswer (scoreFrom (now (board .entry)) (now (starts .entry)) count settings (now (breaks .entry)) play) ⌝ }
 {
     let p = least(play.passed_objects as u64, count as u64) as usize;

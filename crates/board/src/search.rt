@@ -5,9 +5,9 @@ use tree::Combined;
 use tree::Size;
 use tree::sum_of_first;
 ghost use mathlib.Core.Path.{_≡_};
-ghost use Prim.Native.Nat.{_-_, _*_, _≤_};
+ghost use Prim.Native.Nat.{_-_, _≤_};
 ghost use lib.ListN.{length};
-ghost use Rattle.tree.specs.Size.{levelsOf, capOf};
+ghost use Rattle.board.specs.Place.{Holds};
 ghost use Rattle.board.specs.Search.{timeBad, startsIn, startsFound, foundOf, searchOf};
 
 // The starts of the first object and of the last that counts; both 0 where a map has none.
@@ -74,7 +74,7 @@ fn find_starts(starts: &[f64], count: usize, p: usize) -> StartsFound
 
 // The first p of `count` places.
 pub fn find(board: &[u64], starts: &[f64], size: Size, count: usize, p: usize) -> Search
-    requires { ⌜ (size .levels ≡ levelsOf count) × (size .cap ≡ capOf count) × (count ≤ 8192) × (p ≤ count) × (26 * size .cap ≤ length (now board)) × (count ≤ length (now starts)) ⌝ }
+    requires { ⌜ Holds size count (now board) (now starts) × (p ≤ count) ⌝ }
     ensures { λ r. ⌜ r ≡ searchOf (foundOf (now (board .entry)) (now (starts .entry)) count p) ⌝ }
 {
     match sum_of_first(board, size, p) {

@@ -10,6 +10,8 @@ use Rattle.records.specs.Refusals.{Checked, good, refused, _>>=_, _>>_, refuse_
 use Rattle.records.specs.Fields.{cut}
 use Rattle.records.specs.Objects.{Object, objectView}
 use Rattle.records.specs.Records.{Content, header, break, object, play, objectOf}
+use Rattle.records.specs.declared.record.Record.{Record}
+use Rattle.records.specs.declared.record.Record.the-variants as record·case
 use Rattle.entries.specs.Entry.{entryOf}
 use Rattle.tree.specs.Size.{levelsOf, capOf}
 use Rattle.board.specs.Place.{roomFor, putAt}
@@ -38,6 +40,12 @@ objectIn r = do
 abbrev pub aloneOf : Checked Object → Alone
 aloneOf (refused n) = alone.Refused n
 aloneOf (good o) = alone.Is (objectView o)
+
+abbrev pub onlyOf : Record → Alone
+onlyOf (record·case.Header s) = alone.Refused 3
+onlyOf (record·case.Break b) = alone.Refused 3
+onlyOf (record·case.Object o) = alone.Is o
+onlyOf (record·case.Play p) = alone.Refused 3
 
 -- "12: an edited place is not below the object count"
 unfoldable pub editOf : List ℕ → List Float → ℕ → ℕ → List ℕ → Checked (List ℕ × List Float)

@@ -4,7 +4,7 @@ use Prim.Native.Nat.{ℕ, _+_, _-_}
 use mathlib.Core.Bool.{Bool, not, _&&_}
 use mathlib.Core.List.{List}
 use lib.Dec.{eqb}
-use lib.Ieee.{Float, neg, le}
+use lib.Ieee.{Float, nan, neg, le}
 use lib.ListN.{getD}
 use Rattle.numbers.specs.Floats.{whole}
 use Rattle.records.specs.Refusals.{Checked, good, refused, _>>=_, _>>_, refuse_when_, pick}
@@ -28,9 +28,9 @@ timeBad x = not (le (neg timeLimit) x && le x timeLimit)
 -- object none is read
 unfoldable pub startsIn : List Float → ℕ → ℕ → Checked Starts
 startsIn ts n p = pick (eqb n 0) (good (record { first = whole 0; last = whole 0 })) do
-  refuse 13 when timeBad (getD ts 0 (whole 0))
-  refuse 13 when timeBad (getD ts (p - 1) (whole 0))
-  good (record { first = getD ts 0 (whole 0); last = getD ts (p - 1) (whole 0) })
+  refuse 13 when timeBad (getD ts 0 nan)
+  refuse 13 when timeBad (getD ts (p - 1) nan)
+  good (record { first = getD ts 0 nan; last = getD ts (p - 1) nan })
 
 -- what a read of the first p of n places finds: 13 and 7 entry by entry, then the starts, then k and s of all of them
 unfoldable pub foundOf : List ℕ → List Float → ℕ → ℕ → Checked Found

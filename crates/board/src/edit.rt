@@ -12,12 +12,23 @@ use records::record::Record;
 use tree::Put;
 ghost use mathlib.Core.Path.{_≡_};
 ghost use Rattle.board.specs.Place.{writtenOf, writtenLeft};
-ghost use Rattle.board.specs.Edit.{objectIn, aloneOf, editOf};
+ghost use Rattle.board.specs.Edit.{onlyOf, objectIn, aloneOf, editOf};
 
 // The object of a record that stands alone, or the number of what is wrong with it.
 pub enum Alone {
     Is(HitObject),
     Refused(u8),
+}
+
+fn object_only(item: Record) -> Alone
+    ensures { λ x. ⌜ x ≡ onlyOf item ⌝ }
+{
+    match item {
+        Record::Object(object) => Alone::Is(object),
+        Record::Header(_) => Alone::Refused(3),
+        Record::Break(_) => Alone::Refused(3),
+        Record::Play(_) => Alone::Refused(3),
+    }
 }
 
 // One object's record and nothing behind it.
@@ -33,13 +44,10 @@ pub fn read_alone(r: &[u8]) -> Alone
     match read_object(r, word_at(r, 0, 2)) {
         Read::Refused(number) => Alone::Refused(number),
         Read::Good(item, size) => {
-            let Record::Object(object) = item else {
-                return Alone::Refused(3);
-            };
             if size < r.len() {
                 return Alone::Refused(3);
             }
-            Alone::Is(object)
+            object_only(item)
         }
     }
 }

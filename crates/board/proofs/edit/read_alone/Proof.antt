@@ -1,54 +1,59 @@
+-- Each return is what the definition computes from the tests on the way.
+use Prim.Native.Nat.{ℕ}
+use mathlib.Core.Path.{_≡_, sym, ap, _∙_}
+use native.Mathlib.Omega.{arith}
+use Rattle.numbers.specs.Words.{wordAt}
+use Rattle.records.specs.Records.{objectOf, readOf}
+use Rattle.records.proofs.Laws.{so}
+use Rattle.board.specs.Edit.{aloneOf}
+use Rattle.board.proofs.Alones as alones
+use mathlib.Core.Path.{sym, ap, _∙_}
 use borrow.Author.Needs.{needs}
 use Rattle.board.proofs.edit.read_alone.Statement.{statement}
 use Rattle.board.proofs.edit.read_alone.Tie as tie
-use Rattle.board.proofs.edit.read_alone.Reads as reads
-use Rattle.board.proofs.edit.read_alone.Lts as lts
+use Rattle.board.proofs.edit.object_only.Reads as object-only-reads
 use Rattle.numbers.proofs.words.word_at.Reads as word-at-reads
 use Rattle.records.proofs.hit_object.read_object.Reads as read-object-reads
 
--- src/edit.rt:28:9
 returns : tie.Need-returns
-returns c = ?
+returns c = sym (ap aloneOf (alones.empty (c .before .before .args .r .now) (c .if1 .taken)))
 
--- src/edit.rt:31:9
 returns-2 : tie.Need-returns-2
-returns-2 c = ?
+returns-2 c =
+    sym (ap aloneOf (alones.one-byte (c .before .before .before .args .r .now) (c .before .if1 .left) (c .if2 .taken)))
 
--- src/edit.rt:33:26
 word-at-requires : tie.Need-word-at-requires
 word-at-requires c κs = search needs
 
--- src/edit.rt:33:11
 read-object-requires : tie.Need-read-object-requires
 read-object-requires c κs = search needs
 
--- src/edit.rt:34:23
 enum-known-number : tie.Need-enum-known-number
 enum-known-number c = search needs
 
--- src/edit.rt:35:20
 enum-known-item : tie.Need-enum-known-item
 enum-known-item c = search needs
 
--- src/edit.rt:36:32
-enum-known-item-2 : tie.Need-enum-known-item-2
-enum-known-item-2 c = search needs
-
--- src/edit.rt:37:17
 returns-3 : tie.Need-returns-3
-returns-3 c = ?
+returns-3 c =
+    let mark : c .before .before .before .before .before .word-at .result ≡ wordAt (c .before .before .before .before .before .before .before .before .before .args .r .now) 0 2 = c .before .before .before .before .before .word-at .ensures .0 in
+    let found = so (c .before .before .item .given .1) (c .before .before .before .before .read-object .ensures) ∙ ap (λ (m : ℕ). readOf (objectOf (c .before .before .before .before .before .before .before .before .before .args .r .now) m)) mark in
+    sym (ap aloneOf (alones.longer (c .before .before .before .before .before .before .before .before .before .args .r .now) (c .before .before .before .before .before .before .if2 .left) _ _ found (c .if3 .taken)))
 
--- src/edit.rt:40:17
+object-only-requires : tie.Need-object-only-requires
+object-only-requires c κs = search needs
+
 returns-4 : tie.Need-returns-4
-returns-4 c = ?
+returns-4 c =
+    let mark : c .before .before .before .before .word-at .result ≡ wordAt (c .before .before .before .before .before .before .before .before .args .r .now) 0 2 = c .before .before .before .before .word-at .ensures .0 in
+    let found = so (c .before .number .given .1) (c .before .before .before .read-object .ensures) ∙ ap (λ (m : ℕ). readOf (objectOf (c .before .before .before .before .before .before .before .before .args .r .now) m)) mark in
+    sym (ap aloneOf (alones.not-read (c .before .before .before .before .before .before .before .before .args .r .now) (c .before .before .before .before .before .if2 .left) _ found))
 
--- src/edit.rt:24:1
 returns-5 : tie.Need-returns-5
-returns-5 c = ?
-
--- src/edit.rt:24:1
-returns-6 : tie.Need-returns-6
-returns-6 c = ?
+returns-5 c =
+    let mark : c .before .before .before .before .before .before .word-at .result ≡ wordAt (c .before .before .before .before .before .before .before .before .before .before .args .r .now) 0 2 = c .before .before .before .before .before .before .word-at .ensures .0 in
+    let found = so (c .before .before .before .item .given .1) (c .before .before .before .before .before .read-object .ensures) ∙ ap (λ (m : ℕ). readOf (objectOf (c .before .before .before .before .before .before .before .before .before .before .args .r .now) m)) mark in
+    c .object-only .ensures ∙ alones.ends (c .before .before .before .before .before .before .before .before .before .before .args .r .now) (c .before .before .before .before .before .before .before .if2 .left) _ _ found (c .before .if3 .left)
 
 pub read-alone-spec : {M : Type 1} → statement M
 read-alone-spec =
@@ -60,8 +65,7 @@ read-alone-spec =
     read-object-requires
     enum-known-number
     enum-known-item
-    enum-known-item-2
     returns-3
+    object-only-requires
     returns-4
-    returns-5
-    returns-6)
+    returns-5)

@@ -1,53 +1,46 @@
+-- The climb's answer stands, and the start is put behind it.
+use native.Mathlib.Omega.{arith}
+use Rattle.records.proofs.Laws.{so}
+use Rattle.board.proofs.Puts as puts
 use borrow.Author.Needs.{needs}
 use Rattle.board.proofs.place.put_at.Statement.{statement}
 use Rattle.board.proofs.place.put_at.Tie as tie
-use Rattle.board.proofs.place.put_at.Reads as reads
-use Rattle.board.proofs.place.put_at.Lts as lts
 use Rattle.tree.proofs.climb.Reads as climb-reads
 
--- src/place.rt:58:37
 add-climb : tie.Need-add-climb
 add-climb c = search needs
 
--- src/place.rt:58:11
 climb-requires : tie.Need-climb-requires
 climb-requires c κs = search needs
 
--- src/place.rt:59:22
 enum-known-number : tie.Need-enum-known-number
 enum-known-number c = search needs
 
--- src/place.rt:61:13
 enum-told : tie.Need-enum-told
 enum-told c = search needs
 
--- src/place.rt:61:13
 mul-starts : tie.Need-mul-starts
 mul-starts c = search needs
 
--- src/place.rt:61:13
 slice-write-starts : tie.Need-slice-write-starts
 slice-write-starts c = search needs
 
--- src/place.rt:47:1
 same-length : tie.Need-same-length
 same-length c = search needs
 
--- src/place.rt:47:1
 returns : tie.Need-returns
-returns c = ?
+returns c =
+    puts.stopped (c .before .before .before .before .before .before .before .before .before .before .args .size) (c .before .before .before .before .before .before .before .before .before .before .args .place) (c .before .before .before .before .before .before .before .before .before .before .args .entry) (c .before .before .before .before .before .before .before .before .before .before .args .start) (c .before .before .before .before .before .before .before .before .before .before .args .board .now) (c .before .before .before .before .before .before .before .before .before .before .args .starts .now) _ _ (so (c .before .number .given .1) (c .before .before .before .before .before .climb .ensures .0)) (c .before .before .before .before .before .climb .ensures .1)
 
--- src/place.rt:47:1
 same-length-2 : tie.Need-same-length-2
 same-length-2 c = search needs
 
--- src/place.rt:47:1
 same-length-3 : tie.Need-same-length-3
 same-length-3 c = search needs
 
--- src/place.rt:47:1
 returns-2 : tie.Need-returns-2
-returns-2 c = ?
+returns-2 c =
+    puts.stored (c .before .before .before .before .before .before .before .before .before .args .size) (c .before .before .before .before .before .before .before .before .before .args .place) (c .before .before .before .before .before .before .before .before .before .args .entry) (c .before .before .before .before .before .before .before .before .before .args .start) (c .before .before .before .before .before .before .before .before .before .args .board .now) (c .before .before .before .before .before .before .before .before .before .args .starts .now) _ (so (c .enum-told .given .1) (c .before .before .before .before .climb .ensures .0)) (c .before .before .before .before .climb .ensures .1)
 
 pub put-at-spec : {M : Type 1} → statement M
 put-at-spec =

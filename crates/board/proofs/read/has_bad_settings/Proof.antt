@@ -1,33 +1,33 @@
+-- One setting after the other.
+use Rattle.board.specs.Read.{settingsBad}
+use Rattle.records.proofs.Laws.{so}
 use borrow.Author.Needs.{needs}
 use Rattle.board.proofs.read.has_bad_settings.Statement.{statement}
 use Rattle.board.proofs.read.has_bad_settings.Tie as tie
-use Rattle.board.proofs.read.has_bad_settings.Reads as reads
-use Rattle.board.proofs.read.has_bad_settings.Lts as lts
 use Rattle.board.proofs.read.is_bad_setting.Reads as is-bad-setting-reads
 
--- src/read.rt:54:8
 is-bad-setting-requires : tie.Need-is-bad-setting-requires
 is-bad-setting-requires c κs = search needs
 
--- src/read.rt:55:9
 returns : tie.Need-returns
-returns c = ?
+unfolding settingsBad
+returns c = simp (so (c .before .is-bad-setting .ensures) (c .if1 .taken))
 
--- src/read.rt:57:8
 is-bad-setting-requires-2 : tie.Need-is-bad-setting-requires-2
 is-bad-setting-requires-2 c κs = search needs
 
--- src/read.rt:58:9
 returns-2 : tie.Need-returns-2
-returns-2 c = ?
+unfolding settingsBad
+returns-2 c =
+    simp (so (c .before .before .before .is-bad-setting .ensures) (c .before .before .if1 .left), so (c .before .is-bad-setting2 .ensures) (c .if2 .taken))
 
--- src/read.rt:60:5
 is-bad-setting-requires-3 : tie.Need-is-bad-setting-requires-3
 is-bad-setting-requires-3 c κs = search needs
 
--- src/read.rt:51:1
 returns-3 : tie.Need-returns-3
-returns-3 c = ?
+unfolding settingsBad
+returns-3 c =
+    simp (so (c .before .before .before .before .is-bad-setting .ensures) (c .before .before .before .if1 .left), so (c .before .before .is-bad-setting2 .ensures) (c .before .if2 .left)) (c .is-bad-setting3 .ensures)
 
 pub has-bad-settings-spec : {M : Type 1} → statement M
 has-bad-settings-spec =

@@ -1,50 +1,60 @@
+-- What is left to look at decides.
+use mathlib.Core.Path.{_≡_, refl, sym, ap, _∙_}
+use mathlib.Core.Bool.{Bool, true, false, _||_}
+use Prim.Native.Nat.{_+_, _-_, _≤_}
+use native.Mathlib.Omega.{arith}
+use lib.ListN.{length, drop}
+use borrow.Author.Needs.{needs}
+use Rattle.records.proofs.Laws.{so}
+use Rattle.board.specs.Read.{timesBad}
+use Rattle.board.proofs.Times.{times-at, times-end}
 use Rattle.board.proofs.read.has_bad_times.Statement.{statement}
 use Rattle.board.proofs.read.has_bad_times.Tie as tie
-use Rattle.board.proofs.read.has_bad_times.Reads as reads
-use Rattle.board.proofs.read.has_bad_times.Lts as lts
 use Rattle.board.proofs.search.is_bad_time.Reads as is-bad-time-reads
 
 abbrev Inv-loop : tie.InvT-loop
-Inv-loop times i₀ i = ?
+Inv-loop times i₀ i = (i ≤ length times) × (timesBad (drop i times) ≡ timesBad times)
 
 abbrev μ-loop : tie.MeasureT-loop
-μ-loop times i₀ i = ?
+μ-loop times i₀ i = length times - i
 
--- src/read.rt:67:5
 loop-holds : tie.Need-loop-holds Inv-loop μ-loop
-loop-holds c = ?
+loop-holds c = (omega arith, refl)
 
--- src/read.rt:68:24
 mul-is-bad-time : tie.Need-mul-is-bad-time Inv-loop μ-loop
-mul-is-bad-time c = ?
+mul-is-bad-time c = omega arith
 
--- src/read.rt:68:24
 shared-slice-read-is-bad-time : tie.Need-shared-slice-read-is-bad-time Inv-loop μ-loop
-shared-slice-read-is-bad-time c = ?
+shared-slice-read-is-bad-time c = omega arith
 
--- src/read.rt:68:12
 is-bad-time-requires : tie.Need-is-bad-time-requires Inv-loop μ-loop
-is-bad-time-requires c κs = ?
+is-bad-time-requires c κs = search needs
 
--- src/read.rt:69:13
 returns : tie.Need-returns Inv-loop μ-loop
-returns c = ?
+returns c =
+    let l = c .before .before .before .before .before .before .args .times .now in
+    let i = c .before .before .before .before .loop .i in
+    sym (sym (c .before .before .before .before .loop .inv .1) ∙ times-at l i (omega arith) ∙ ap (λ (t : Bool). t || timesBad (drop (i + 1) l)) (so (c .before .is-bad-time .ensures) (c .if1 .taken)))
 
--- src/read.rt:71:9
 add-i : tie.Need-add-i Inv-loop μ-loop
-add-i c = ?
+add-i c = omega arith
 
--- src/read.rt:67:5
 loop-less : tie.Need-loop-less Inv-loop μ-loop
-loop-less c = ?
+loop-less c = omega arith
 
--- src/read.rt:67:5
 loop-again : tie.Need-loop-again Inv-loop μ-loop
-loop-again c = ?
+loop-again c =
+    let l = c .before .before .before .before .before .before .args .times .now in
+    let i = c .before .before .before .before .loop .i in
+    (
+      omega arith,
+      sym (times-at l i (omega arith) ∙ ap (λ (t : Bool). t || timesBad (drop (i + 1) l)) (so (c .before .is-bad-time .ensures) (c .if1 .left))) ∙ c .before .before .before .before .loop .inv .1,
+    )
 
--- src/read.rt:63:1
 returns-2 : tie.Need-returns-2 Inv-loop μ-loop
-returns-2 c = ?
+returns-2 c =
+    let l = c .before .before .before .args .times .now in
+    sym (sym (c .before .loop .inv .1) ∙ times-end l (c .before .loop .i) (omega arith))
 
 pub has-bad-times-spec : {M : Type 1} → statement M
 has-bad-times-spec =

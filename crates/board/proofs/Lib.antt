@@ -1,0 +1,4 @@
+pub mod Times
+pub mod Rooms
+pub mod Alones
+pub mod Puts

@@ -1,18 +1,23 @@
--- The entry of any run of an accepted map's objects is within the limits: the legacy bonus alone can leave them. Assumes nothing.
+-- The entry of an accepted map's objects is within the limits; with one object changed, the legacy bonus alone can leave them. Assumes nothing.
 use Prim.Native.Nat.{ℕ, zero, suc, _+_, _*_, _≤_, _<_}
-use mathlib.Core.Path.{_≡_, refl}
+use mathlib.Core.Path.{_≡_, refl, sym, subst}
+use mathlib.Core.Logic.{_≢_}
 use mathlib.Core.Bool.{Bool, true, false, cond}
 use mathlib.Core.List.{List, [], _∷_}
 use native.Mathlib.Omega.{arith}
 use native.Mathlib.Nat.{mul-le-mul, mul-le-mul-left, le-trans}
-use lib.Ieee.{Float}
+use native.Mathlib.Decide.{ℕ-discrete}
+use lib.Dec.{T}
+use lib.Ieee.{Float, ofBits, ofInt}
 use lib.ListN.{length, getD}
+use Rattle.numbers.specs.Floats.{whole}
+use Rattle.numbers.proofs.Bounds.{Upto, of-tests}
 use Rattle.spinner.specs.HalfSpins.{totalHalfSpins, requiredHalfSpins}
 use Rattle.spinner.specs.Bonus.{isLarge, isSmall, walked, legacyOf, standardisedOf}
 use Rattle.records.specs.Objects.{Object, Kind, circle, slider, spinner, repeats, ticks, kindBonus, bonus}
-use Rattle.encoding.specs.Limits.{Each, none, one, KindWithin, ObjectWithin}
+use Rattle.encoding.specs.Limits.{Each, none, one, IsDuration, KindWithin, ObjectWithin}
 use Rattle.simulator.specs.Combo.{gain, gainBefore, combosBefore, firstNoSlider}
-use Rattle.simulator.proofs.Bonus.{nested-legacy}
+use Rattle.simulator.proofs.Bonus.{legacy-hour, nested-hour}
 use Rattle.simulator.proofs.Sums.{items-count}
 use Rattle.entries.specs.Entry.{accuracyGain, standardisedGain, isCircle, isSlider, isSpinner, repeatsIn, ticksIn, spinnerScoreIn, total, entryOf, wordsOf, limitList, inLimits}
 use Rattle.entries.proofs.Limits.{within-of}
@@ -26,10 +31,15 @@ total-most v c (o ∷ os) (one w ws) h =
     let rest = total-most v c os ws h in
     omega (arith, first, rest)
 
-total-below : (v w : Kind → ℕ) (os : List Object) → ((k : Kind) → v k ≤ w k) → total v os ≤ total w os
+-- m of one sum against n of another, and c for each object
+total-against : (m n c : ℕ) (v w : Kind → ℕ) (os : List Object) → Each ObjectWithin os → ((k : Kind) → KindWithin k → m * v k ≤ n * w k + c)
+    → m * total v os ≤ n * total w os + c * length os
 unfolding total
-total-below v w [] h = omega arith
-total-below v w (o ∷ os) h = let first = h (o .kind) in let rest = total-below v w os h in omega (arith, first, rest)
+total-against m n c v w [] none h = omega arith
+total-against m n c v w (o ∷ os) (one x xs) h =
+    let first = h (o .kind) (x .kind) in
+    let rest = total-against m n c v w os xs h in
+    omega (arith, first, rest)
 
 -- ---- what one object adds
 gain-most : (k : Kind) → KindWithin k → gain k ≤ 1001
@@ -67,27 +77,36 @@ ticks-most circle h = omega arith
 ticks-most (slider is) h = let n = items-count is in omega (arith, h, n)
 ticks-most (spinner d) h = omega arith
 
--- the standardised bonus and the nested score of a spinner are at most its legacy bonus
-walked-below : (b i : ℕ) → walked 50 10 b i ≤ walked 1100 100 b i
+-- the standardised bonus of a spinner is at most a tenth of its legacy bonus, the nested score not much above two thirds
+walked-below : (b i : ℕ) → 10 * walked 50 10 b i ≤ walked 1100 100 b i
 unfolding walked
 walked-below b zero = omega arith
 walked-below b (suc i) = step (isLarge b i) (isSmall i) (walked 50 10 b i) (walked 1100 100 b i) (walked-below b i)
   where
-    step : (x y : Bool) (u v : ℕ) → u ≤ v → u + cond x 50 (cond y 10 0) ≤ v + cond x 1100 (cond y 100 0)
+    step : (x y : Bool) (u v : ℕ) → 10 * u ≤ v → 10 * (u + cond x 50 (cond y 10 0)) ≤ v + cond x 1100 (cond y 100 0)
     step true y u v h = omega arith
     step false true u v h = omega arith
     step false false u v h = omega arith
 
-standardised-below : (k : Kind) → standardisedGain k ≤ kindBonus k
+standardised-below : (k : Kind) → KindWithin k → 10 * standardisedGain k ≤ 1 * kindBonus k + 0
 unfolding legacyOf standardisedOf
-standardised-below circle = omega arith
-standardised-below (slider is) = omega arith
-standardised-below (spinner d) = walked-below (requiredHalfSpins d + 3) (suc (totalHalfSpins d))
+standardised-below circle h = omega arith
+standardised-below (slider is) h = omega arith
+standardised-below (spinner d) h = let w = walked-below (requiredHalfSpins d + 3) (suc (totalHalfSpins d)) in omega (arith, w)
 
-spinner-below : (k : Kind) → spinnerScoreIn k ≤ kindBonus k
-spinner-below circle = omega arith
-spinner-below (slider is) = omega arith
-spinner-below (spinner d) = nested-legacy d
+duration-upto : (d : Float) → IsDuration d → Upto d (whole 3600000)
+unfolding ofBits ofInt
+duration-upto d h = of-tests d (whole 3600000) tt (subst T (sym (h .above)) tt) (subst T (sym (h .below)) tt)
+
+spinner-below : (k : Kind) → KindWithin k → 3 * spinnerScoreIn k ≤ 2 * kindBonus k + 400
+spinner-below circle h = omega arith
+spinner-below (slider is) h = omega arith
+spinner-below (spinner d) h = nested-hour d (duration-upto d h)
+
+pub object-bonus : (k : Kind) → KindWithin k → kindBonus k ≤ 62965100
+object-bonus circle h = omega arith
+object-bonus (slider is) h = omega arith
+object-bonus (spinner d) h = legacy-hour d (duration-upto d h)
 
 -- ---- s and f
 before-below : (k : Kind) → gainBefore k ≤ gain k
@@ -125,40 +144,55 @@ unfolding total bonus
 bonus-total [] = refl
 bonus-total (o ∷ os) = let e = bonus-total os in omega (arith, e)
 
-pub entry-within : (os : List Object) → Each ObjectWithin os → length os ≤ 8192 → bonus os ≤ 2147483647 → inLimits (entryOf os) ≡ true
+-- every word but the legacy bonus, for a map's bonus and one more object's
+pub words-within : (os : List Object) → Each ObjectWithin os → length os ≤ 8192 → bonus os ≤ 2147483647 + 62965100
+    → (i : ℕ) → i < 13 → i ≢ 5 → getD (wordsOf (entryOf os)) i 0 ≤ getD limitList i 0
 unfolding entryOf
-entry-within os w few low =
+words-within os w few low =
     let many : (c : ℕ) → c * length os ≤ c * 8192 = (λ c. mul-le-mul-left c few) in
-    let legacy : total kindBonus os ≤ 2147483647 = (let e = bonus-total os in omega (arith, e, low)) in
+    let legacy : total kindBonus os ≤ 2147483647 + 62965100 = (let e = bonus-total os in omega (arith, e, low)) in
     let combo : total gain os ≤ 8200192 = (let t = total-most gain 1001 os w gain-most in omega (arith, t, many 1001)) in
     let before : combosBefore 0 os ≤ 137438953472 =
     (let b = before-most 0 os in let z : 0 + total gain os ≡ total gain os = omega arith in let d = rw z at b in let p = mul-le-mul combo few in omega (arith, d, p)) in
     let first = first-most os in
     let accuracy : total accuracyGain os ≤ 2147483647 = (let t = total-most accuracyGain 30330 os w accuracy-most in omega (arith, t, many 30330)) in
-    let standardised : total standardisedGain os ≤ 2147483647 = (let t = total-below standardisedGain kindBonus os standardised-below in omega (arith, t, legacy)) in
+    let standardised : total standardisedGain os ≤ 2147483647 =
+    (let t = total-against 10 1 0 standardisedGain kindBonus os w standardised-below in omega (arith, t, legacy)) in
     let circles : total isCircle os ≤ 8192 = (let t = total-most isCircle 1 os w circle-most in omega (arith, t, few)) in
     let sliders : total isSlider os ≤ 8192 = (let t = total-most isSlider 1 os w slider-most in omega (arith, t, few)) in
     let spinners : total isSpinner os ≤ 8192 = (let t = total-most isSpinner 1 os w spinner-most in omega (arith, t, few)) in
     let repeated : total repeatsIn os ≤ 8200192 = (let t = total-most repeatsIn 1001 os w repeats-most in omega (arith, t, many 1001)) in
     let ticked : total ticksIn os ≤ 8200192 = (let t = total-most ticksIn 1001 os w ticks-most in omega (arith, t, many 1001)) in
-    let spun : total spinnerScoreIn os ≤ 2147483647 = (let t = total-below spinnerScoreIn kindBonus os spinner-below in omega (arith, t, legacy)) in
-    within-of (entryOf os) (places few combo before first accuracy legacy standardised circles sliders spinners repeated ticked spun)
+    let spun : total spinnerScoreIn os ≤ 2147483647 =
+    (let t = total-against 3 2 400 spinnerScoreIn kindBonus os w spinner-below in omega (arith, t, legacy, few)) in
+    places few combo before first accuracy standardised circles sliders spinners repeated ticked spun
   where
     places : length os ≤ 8192 → total gain os ≤ 8200192 → combosBefore 0 os ≤ 137438953472 → firstNoSlider os ≤ 1 → total accuracyGain os ≤ 2147483647
-        → total kindBonus os ≤ 2147483647 → total standardisedGain os ≤ 2147483647 → total isCircle os ≤ 8192 → total isSlider os ≤ 8192 → total isSpinner os ≤ 8192
+        → total standardisedGain os ≤ 2147483647 → total isCircle os ≤ 8192 → total isSlider os ≤ 8192 → total isSpinner os ≤ 8192
         → total repeatsIn os ≤ 8200192 → total ticksIn os ≤ 8200192 → total spinnerScoreIn os ≤ 2147483647
-        → (i : ℕ) → i < 13 → getD (wordsOf (entryOf os)) i 0 ≤ getD limitList i 0
-    places a b c d e f g h j k l m n zero lt = a
-    places a b c d e f g h j k l m n (suc zero) lt = b
-    places a b c d e f g h j k l m n (suc (suc zero)) lt = c
-    places a b c d e f g h j k l m n (suc (suc (suc zero))) lt = d
-    places a b c d e f g h j k l m n (suc (suc (suc (suc zero)))) lt = e
-    places a b c d e f g h j k l m n (suc (suc (suc (suc (suc zero))))) lt = f
-    places a b c d e f g h j k l m n (suc (suc (suc (suc (suc (suc zero)))))) lt = g
-    places a b c d e f g h j k l m n (suc (suc (suc (suc (suc (suc (suc zero))))))) lt = h
-    places a b c d e f g h j k l m n (suc (suc (suc (suc (suc (suc (suc (suc zero)))))))) lt = j
-    places a b c d e f g h j k l m n (suc (suc (suc (suc (suc (suc (suc (suc (suc zero))))))))) lt = k
-    places a b c d e f g h j k l m n (suc (suc (suc (suc (suc (suc (suc (suc (suc (suc zero)))))))))) lt = l
-    places a b c d e f g h j k l m n (suc (suc (suc (suc (suc (suc (suc (suc (suc (suc (suc zero))))))))))) lt = m
-    places a b c d e f g h j k l m n (suc (suc (suc (suc (suc (suc (suc (suc (suc (suc (suc (suc zero)))))))))))) lt = n
-    places a b c d e f g h j k l m n (suc (suc (suc (suc (suc (suc (suc (suc (suc (suc (suc (suc (suc i))))))))))))) lt = absurd (omega (arith, lt))
+        → (i : ℕ) → i < 13 → i ≢ 5 → getD (wordsOf (entryOf os)) i 0 ≤ getD limitList i 0
+    places a b c d e g h j k l m n zero lt ne = a
+    places a b c d e g h j k l m n (suc zero) lt ne = b
+    places a b c d e g h j k l m n (suc (suc zero)) lt ne = c
+    places a b c d e g h j k l m n (suc (suc (suc zero))) lt ne = d
+    places a b c d e g h j k l m n (suc (suc (suc (suc zero)))) lt ne = e
+    places a b c d e g h j k l m n (suc (suc (suc (suc (suc zero))))) lt ne = absurd (ne refl)
+    places a b c d e g h j k l m n (suc (suc (suc (suc (suc (suc zero)))))) lt ne = g
+    places a b c d e g h j k l m n (suc (suc (suc (suc (suc (suc (suc zero))))))) lt ne = h
+    places a b c d e g h j k l m n (suc (suc (suc (suc (suc (suc (suc (suc zero)))))))) lt ne = j
+    places a b c d e g h j k l m n (suc (suc (suc (suc (suc (suc (suc (suc (suc zero))))))))) lt ne = k
+    places a b c d e g h j k l m n (suc (suc (suc (suc (suc (suc (suc (suc (suc (suc zero)))))))))) lt ne = l
+    places a b c d e g h j k l m n (suc (suc (suc (suc (suc (suc (suc (suc (suc (suc (suc zero))))))))))) lt ne = m
+    places a b c d e g h j k l m n (suc (suc (suc (suc (suc (suc (suc (suc (suc (suc (suc (suc zero)))))))))))) lt ne = n
+    places a b c d e g h j k l m n (suc (suc (suc (suc (suc (suc (suc (suc (suc (suc (suc (suc (suc i))))))))))))) lt ne = absurd (omega (arith, lt))
+
+pub entry-within : (os : List Object) → Each ObjectWithin os → length os ≤ 8192 → bonus os ≤ 2147483647 → inLimits (entryOf os) ≡ true
+unfolding entryOf
+entry-within os w few low = within-of (entryOf os) (λ i lt. go i lt (ℕ-discrete i 5))
+  where
+    legacy : total kindBonus os ≤ 2147483647
+    legacy = let e = bonus-total os in omega (arith, e, low)
+
+    go : (i : ℕ) → i < 13 → Dec (i ≡ 5) → getD (wordsOf (entryOf os)) i 0 ≤ getD limitList i 0
+    go i lt (yes e) = subst (λ (n : ℕ). getD (wordsOf (entryOf os)) n 0 ≤ getD limitList n 0) (sym e) legacy
+    go i lt (no n) = words-within os w few (omega (arith, low)) i lt n

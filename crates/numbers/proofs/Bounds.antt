@@ -9,11 +9,12 @@ use borrow.Author.Tests.{le-ltb}
 use lib.Dec.{T, ltb, eqb, ltb→lt, nltb→le, eqb→eq, eqb·suc-zero}
 use lib.IntN.{ℤ, pos}
 use lib.Ieee.{Float, nan, inf, fin, Format, prec, emax, low, unlike, up, down, round, units, odd, add, mul, div, sum, le, toUnsigned}
+use lib.Ieee.Casts.{toUnsigned-lt}
 use lib.Ieee.Exact.{HasValue, round-exact}
 use lib.Ieee.Fits.{up-pos, down-pos, round-is, and-l}
 use lib.Ieee.Nearest.{closest, div-mono}
 use lib.Ieee.Order.{drop, round-mono}
-use lib.Ieee.Positive.{num, den}
+use lib.Ieee.Positive.{num, den, den-pos, through}
 use lib.Pow.{pow-pos}
 
 -- a number with the sign clear; and a number that is not below zero
@@ -47,20 +48,21 @@ no-inf (inf s) p h = p
 no-inf (fin true m e) p h = p
 no-inf (fin false m e) p h = h
 
-units-plain : (f : Format) (q k : ℕ) (K : Float) → T (plain K) → T (le (units f false q k) K) → T (plain (units f false q k))
+-- what no infinity has says that a rounded fraction is a number
+units-plain : (f : Format) (q k : ℕ) (P : Float → Type 0) → (P (inf false) → ⊥) → P (units f false q k) → T (plain (units f false q k))
 unfolding units
-units-plain f q k K p h = go (ltb (q * 2 ^ k) (2 ^ (low f + suc (emax f)))) h
+units-plain f q k P never h = go (ltb (q * 2 ^ k) (2 ^ (low f + suc (emax f)))) h
   where
-    go : (b : Bool) → T (le (cond b (odd (suc (prec f)) false q k (low f)) (inf false)) K)
+    go : (b : Bool) → P (cond b (odd (suc (prec f)) false q k (low f)) (inf false))
         → T (plain (cond b (odd (suc (prec f)) false q k (low f)) (inf false)))
     go true h = odd-plain (suc (prec f)) q k (low f)
-    go false h = absurd (no-inf K p h)
+    go false h = absurd (never h)
 
-round-plain : (f : Format) (a c : ℕ) (K : Float) → T (plain K) → T (le (round f false a c) K) → T (plain (round f false a c))
-round-plain f a c K p h =
+round-plain : (f : Format) (a c : ℕ) (P : Float → Type 0) → (P (inf false) → ⊥) → P (round f false a c) → T (plain (round f false a c))
+round-plain f a c P never h =
     subst (λ (z : Float). T (plain z)) (sym (round-is f false a c))
-    (units-plain f (closest (a * 2 ^ low f) (c * 2 ^ drop (prec f) (a * 2 ^ low f) c)) (drop (prec f) (a * 2 ^ low f) c) K p
-    (subst (λ (z : Float). T (le z K)) (round-is f false a c) h))
+    (units-plain f (closest (a * 2 ^ low f) (c * 2 ^ drop (prec f) (a * 2 ^ low f) c)) (drop (prec f) (a * 2 ^ low f) c) P never
+    (subst P (round-is f false a c) h))
 
 lt-or-eq : (a b : ℕ) → T (ltb a b || (eqb a b && true)) → a ≤ b
 lt-or-eq a b t = go (ltb a b) (eqb a b) (ltb→lt a b) (eqb→eq a b) t
@@ -118,7 +120,7 @@ rounded f true a c A C p P z h k =
     subst (λ (n : ℕ). Upto (round f true n c) (round f false A C)) (sym (z tt)) (minus-zero (round f true 0 c) (round f false A C) c p (round-zero f c p))
 rounded f false a c A C p P z h k =
     let l : T (le (round f false a c) (round f false A C)) = round-mono f a c A C p P h in
-    let q : T (plain (round f false a c)) = round-plain f a c (round f false A C) k l in
+    let q : T (plain (round f false a c)) = round-plain f a c (λ z. T (le z (round f false A C))) (no-inf (round f false A C) k) l in
     record { is = plain-nonnegative (round f false a c) q; at-most = le→cross (round f false a c) (round f false A C) q k l }
 
 -- ---- the operations
@@ -150,6 +152,17 @@ mul-upto f (fin s m e) (fin t n d) (fin false M E) (fin false N D) a b h k p =
     (le-trans (le-of-eq (mul-mul-mul-comm (m * up e) (n * up d) (down E) (down D)))
     (le-trans (mul-le-mul (h .at-most) (k .at-most)) (le-of-eq (mul-mul-mul-comm (M * up E) (down e) (N * up D) (down d)))))
     p
+
+-- a product of two numbers with the sign clear has it clear, unless it overflows
+pub mul-plain : (f : Format) (x y : Float) → T (plain x) → T (plain y) → T (nonnegative (mul f x y)) → T (plain (mul f x y))
+unfolding mul
+mul-plain f nan y p q h = absurd p
+mul-plain f (inf s) y p q h = absurd p
+mul-plain f (fin true m e) y p q h = absurd p
+mul-plain f (fin false m e) nan p q h = absurd q
+mul-plain f (fin false m e) (inf t) p q h = absurd q
+mul-plain f (fin false m e) (fin true n d) p q h = absurd q
+mul-plain f (fin false m e) (fin false n d) p q h = round-plain f (m * up e * (n * up d)) (down e * down d) (λ z. T (nonnegative z)) (λ z. z) h
 
 div-is : (f : Format) (s : Bool) (m : ℕ) (e : ℤ) (n : ℕ) (d : ℤ)
     → div f (fin s m e) (fin false (suc n) d) ≡ round f (unlike s false) (m * up e * down d) (suc n * up d * down e)
@@ -266,6 +279,10 @@ of-tests (fin false m e) K p l h = record { is = tt; at-most = le→cross (fin f
 pub of-itself : (K : Float) → T (plain K) → Upto K K
 of-itself K p = record { is = plain-nonnegative K p; at-most = le-refl (num K * den K) }
 
+pub upto-trans : (x y z : Float) → Upto x y → Upto y z → Upto x z
+upto-trans x y z h k =
+    record { is = h .is; at-most = through (num x) (num y) (num z) (den x) (den y) (den z) (den-pos y) (h .at-most) (k .at-most) }
+
 -- ---- a bounded value, cut toward zero
 pub cut-upto : (w : ℕ) (x : Float) (m : ℕ) (e : ℤ) → Upto x (fin false m e) → toUnsigned w x ≤ m * up e / down e
 unfolding toUnsigned
@@ -277,3 +294,13 @@ cut-upto w (fin false n d) m e h =
   where
     least : (a b : ℕ) → min a b ≤ a
     least a b = omega arith
+
+pub cut-mono : (w : ℕ) (x K : Float) → T (plain K) → Upto x K → toUnsigned w x ≤ toUnsigned w K
+unfolding toUnsigned
+cut-mono w x nan p h = absurd p
+cut-mono w x (inf s) p h = absurd p
+cut-mono w x (fin true m e) p h = absurd p
+cut-mono w x (fin false m e) p h = both (cut-upto w x m e h) (toUnsigned-lt w x)
+  where
+    both : {a b c : ℕ} → a ≤ b → a < c → a ≤ min b (c - 1)
+    both h k = omega (arith, h, k)

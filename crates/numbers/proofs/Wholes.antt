@@ -1,15 +1,18 @@
 -- Sums and products of whole numbers as f64 are the f64 of the sum or product, and a whole number that is cut comes back. Assumes nothing.
 use mathlib.Core.Path.{_≡_, sym, ap, _∙_}
 use Prim.Native.Nat.{ℕ, _+_, _-_, _*_, _/_, _^_, _≤_, _<_, min}
-use native.Mathlib.Nat.{mul-pos, mul-mul-mul-comm, mul-one, zero-lt-suc, mul-div-cancel}
+use native.Mathlib.Nat.{le-trans, min-le-left, div-mul-le-self, mul-le-mul-right, mul-pos, mul-mul-mul-comm, mul-one, zero-lt-suc, mul-div-cancel}
 use native.Mathlib.Omega.{arith}
 use mathlib.Core.Bool.{true, false, true≢false}
+use lib.Dec.{T}
 use lib.Ieee.{Float, nan, inf, fin, Format, binary64, up, down, round, sum, add, mul, ofInt, toUnsigned}
 use lib.Ieee.Back.{round-whole}
 use lib.Ieee.Exact.{HasValue}
 use lib.Ieee.Fits.{down-pos}
+use lib.Ieee.Positive.{num, den}
 use lib.Ieee.Scale.{round-same}
 use Rattle.numbers.specs.Floats.{whole}
+use Rattle.numbers.proofs.Bounds.{Upto, nonnegative}
 
 -- up to 2 ^ 53 every whole number is an f64
 pub whole-is : (n : ℕ) → n ≤ 2 ^ 53 → HasValue (whole n) false n 1
@@ -76,3 +79,26 @@ cut-at w (fin false m e) a h l =
 
 pub whole-cut : (w a : ℕ) → a ≤ 2 ^ 53 → a < 2 ^ w → toUnsigned w (whole a) ≡ a
 whole-cut w a h l = cut-at w (whole a) a (whole-is a h) l
+
+-- and what is cut of a float from 0 on is at most that float
+above-whole : (x y : Float) (a : ℕ) → HasValue x false a 1 → a * den y ≤ num y → Upto x y
+above-whole nan y a h k = absurd h
+above-whole (inf s) y a h k = absurd h
+above-whole (fin true m e) y a h k = absurd (true≢false (h .0))
+above-whole (fin false m e) y a h k = record { is = tt; at-most = cross (m * up e) (down e) (den y) (num y) (h .1) k }
+  where
+    cross : (x d c n : ℕ) → x * 1 ≡ a * d → a * c ≤ n → x * c ≤ n * d
+    cross x d c n p q =
+        let p′ : x ≡ a * d = sym (mul-one x) ∙ p in
+        let q′ : a * c * d ≤ n * d = mul-le-mul-right d q in
+        rw p′ (omega (arith, q′))
+
+pub cut-least : (w : ℕ) (x : Float) → T (nonnegative x) → toUnsigned w x ≤ 2 ^ 53 → Upto (whole (toUnsigned w x)) x
+unfolding toUnsigned
+cut-least w x h k = above-whole (whole (toUnsigned w x)) x (toUnsigned w x) (whole-is (toUnsigned w x) k) (least x h)
+  where
+    least : (x : Float) → T (nonnegative x) → toUnsigned w x * den x ≤ num x
+    least nan h = absurd h
+    least (inf s) h = absurd h
+    least (fin true m e) h = omega arith
+    least (fin false m e) h = le-trans (mul-le-mul-right (down e) (min-le-left (m * up e / down e) (2 ^ w - 1))) (div-mul-le-self (m * up e) (down e))

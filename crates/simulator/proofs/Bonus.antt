@@ -1,19 +1,20 @@
 -- How much a spinner gives: at most 1,100 and 50 for each half spin, and never less legacy bonus than nested score. Assumes nothing.
-use mathlib.Core.Path.{_≡_, sym}
+use mathlib.Core.Path.{_≡_, sym, ap, _∙_}
 use Prim.Native.Nat.{ℕ, zero, suc, _+_, _-_, _*_, _/_, _%_, _^_, _≤_, min}
 use native.Mathlib.Nat.{le-trans, le-of-eq}
 use native.Mathlib.Omega.{arith}
 use mathlib.Core.Bool.{Bool, true, false, cond}
-use lib.Dec.{T, eqb, eqb→eq}
-use lib.IntN.{pos}
-use lib.Ieee.{Float, mul, div, ofInt, binary64}
+use lib.Dec.{T, eqb, eqb→eq, lit≤}
+use lib.IntN.{ℤ, pos}
+use lib.Ieee.{Float, nan, inf, fin, mul, div, ofInt, toUnsigned, binary64}
 use lib.Ieee.Casts.{toUnsigned-lt}
-use Rattle.numbers.specs.Floats.{whole}
-use Rattle.numbers.proofs.Bounds.{Upto, mul-upto, div-upto, of-itself, cut-upto}
+use Rattle.numbers.specs.Floats.{whole, _⊗_, _⊘_}
+use Rattle.numbers.proofs.Bounds.{plain, Upto, mul-upto, mul-plain, div-upto, of-itself, upto-trans, cut-mono}
+use Rattle.numbers.proofs.Wholes.{whole-mul, whole-cut, cut-least}
 use Rattle.spinner.specs.HalfSpins.{seconds, totalHalfSpins, requiredHalfSpins}
 use Rattle.spinner.specs.Bonus.{isLarge, isSmall, walked, legacyOf, standardisedOf, largeCount, smallCount}
 use Rattle.spinner.proofs.Walks.{walked-is}
-use Rattle.simulator.specs.Nested.{spinnerScoreOf}
+use Rattle.simulator.specs.Nested.{spinsScore, spinnerScoreOf}
 
 walked-most : (large small b n : ℕ) → small ≤ large → walked large small b n ≤ large * n
 unfolding walked
@@ -55,12 +56,94 @@ unfolding spinnerScoreOf legacyOf
 nested-legacy d =
     le-trans (nested-count (totalHalfSpins d) (requiredHalfSpins d + 3)) (le-of-eq (sym (walked-is 1100 100 (requiredHalfSpins d + 3) (totalHalfSpins d))))
 
--- a spinner of at most an hour has at most 57,240 half spins
+-- ---- a spinner of at most an hour
+abbrev rate : Float
+rate = whole 477 ⊘ whole 60
+
+-- T, of s seconds
+abbrev totalIn : Float → Float
+totalIn s = s ⊗ rate ⊗ whole 2
+
+module _ (s : Float) (h : Upto s (whole 3600)) where
+  rate-upto : Upto (s ⊗ rate) (whole 3600 ⊗ rate)
+  unfolding mul div ofInt
+  rate-upto = mul-upto binary64 s rate (whole 3600) rate tt tt h (of-itself rate tt) tt
+
+  total-upto : Upto (totalIn s) (totalIn (whole 3600))
+  unfolding mul div ofInt
+  total-upto = mul-upto binary64 (s ⊗ rate) (whole 2) (whole 3600 ⊗ rate) (whole 2) tt tt rate-upto (of-itself (whole 2) tt) tt
+
+  required-upto : Upto (s ⊗ whole 3) (whole 3600 ⊗ whole 3)
+  unfolding mul ofInt
+  required-upto = mul-upto binary64 s (whole 3) (whole 3600) (whole 3) tt tt h (of-itself (whole 3) tt) tt
+
+  required-most : toUnsigned 31 (s ⊗ whole 3) ≤ 10800
+  unfolding mul ofInt toUnsigned
+  required-most = cut-mono 31 (s ⊗ whole 3) (whole 3600 ⊗ whole 3) tt required-upto
+
+  -- R as a float is at most s × the rate, so twice R is at most what T is cut from
+  plain-half : T (plain s) → 2 * toUnsigned 31 (s ⊗ whole 3) ≤ toUnsigned 31 (totalIn s)
+  unfolding div ofInt
+  plain-half p =
+      let r = toUnsigned 31 (s ⊗ whole 3) in
+      let few = required-most in
+      let y = mul-plain binary64 s rate p tt (rate-upto .is) in
+      let t = mul-plain binary64 (s ⊗ rate) (whole 2) y tt (total-upto .is) in
+      let below = mul-upto binary64 s (whole 3) s rate p tt (of-itself s p) (record { is = tt; at-most = lit≤ tt }) y in
+      let least = upto-trans (whole r) (s ⊗ whole 3) (s ⊗ rate) (cut-least 31 (s ⊗ whole 3) (required-upto .is) (omega (arith, few))) below in
+      let twice = mul-upto binary64 (whole r) (whole 2) (s ⊗ rate) (whole 2) y tt least (of-itself (whole 2) tt) t in
+      let exact : whole r ⊗ whole 2 ≡ whole (r * 2) = whole-mul r 2 (omega (arith, few)) (lit≤ tt) in
+      let same : toUnsigned 31 (whole r ⊗ whole 2) ≡ r * 2 = ap (toUnsigned 31) exact ∙ whole-cut 31 (r * 2) (omega (arith, few)) (omega (arith, few)) in
+      let most = cut-mono 31 (whole r ⊗ whole 2) (totalIn s) t twice in
+      omega (arith, same, most)
+
+-- -0 seconds
+no-seconds : (e : ℤ) → toUnsigned 31 (fin true 0 e ⊗ whole 3) ≤ 0
+unfolding mul ofInt toUnsigned
+no-seconds e =
+    let zeros : Upto (fin true 0 e) (whole 0) = record { is = tt; at-most = omega arith } in
+    cut-mono 31 (fin true 0 e ⊗ whole 3) (whole 0 ⊗ whole 3) tt (mul-upto binary64 (fin true 0 e) (whole 3) (whole 0) (whole 3) tt tt zeros (of-itself (whole 3) tt) tt)
+
+-- s, of a duration
+hour : (d : Float) → Upto d (whole 3600000) → Upto (seconds d) (whole 3600)
+unfolding div ofInt
+hour d h = div-upto binary64 d (whole 3600000) 124 (pos 3) tt h tt
+
 pub total-hour : (d : Float) → Upto d (whole 3600000) → totalHalfSpins d ≤ 57240
-unfolding totalHalfSpins mul div ofInt
-total-hour d h =
-    let rate = div binary64 (whole 477) (whole 60) in
-    let s = div-upto binary64 d (whole 3600000) 124 (pos 3) tt h tt in
-    let r = mul-upto binary64 (seconds d) rate (whole 3600) rate tt tt s (of-itself rate tt) tt in
-    let t = mul-upto binary64 (mul binary64 (seconds d) rate) (whole 2) (mul binary64 (whole 3600) rate) (whole 2) tt tt r (of-itself (whole 2) tt) tt in
-    cut-upto 31 (mul binary64 (mul binary64 (seconds d) rate) (whole 2)) 7155 (pos 3) t
+unfolding totalHalfSpins mul div ofInt toUnsigned
+total-hour d h = cut-mono 31 (totalIn (seconds d)) (totalIn (whole 3600)) tt (total-upto (seconds d) (hour d h))
+
+-- R is at most half of T
+pub required-half : (d : Float) → Upto d (whole 3600000) → 2 * requiredHalfSpins d ≤ totalHalfSpins d
+unfolding totalHalfSpins requiredHalfSpins
+required-half d h = go (seconds d) (hour d h)
+  where
+    go : (s : Float) → Upto s (whole 3600) → 2 * toUnsigned 31 (s ⊗ whole 3) ≤ toUnsigned 31 (totalIn s)
+    go nan k = absurd (k .is)
+    go (inf t) k = absurd (k .is)
+    go (fin true zero e) k = let z = no-seconds e in omega (arith, z)
+    go (fin true (suc m) e) k = absurd (k .is)
+    go (fin false m e) k = plain-half (fin false m e) k tt
+
+pub legacy-hour : (d : Float) → Upto d (whole 3600000) → legacyOf d ≤ 62965100
+unfolding legacyOf
+legacy-hour d h =
+    let w = walked-most 1100 100 (requiredHalfSpins d + 3) (suc (totalHalfSpins d)) (omega arith) in
+    let t = total-hour d h in
+    omega (arith, w, t)
+
+-- so the nested score is well below the legacy bonus
+nested-thirds : (t r : ℕ) → 2 * r ≤ t → 3 * spinsScore t r ≤ 2 * (1100 * largeCount (r + 3) t + 100 * smallCount (r + 3) t) + 400
+nested-thirds t r h = go (eqb ((r + 3) % 2) 0) (eqb→eq ((r + 3) % 2) 0)
+  where
+    go : (x : Bool) → (T x → (r + 3) % 2 ≡ 0)
+        → 3 * (100 * (t / 2) + 1000 * ((t - (r + 3)) / 2 - t / 2 / 2)) ≤ 2 * (1100 * ((t - (r + 3)) / 2) + 100 * cond x (min t (r + 3) / 2) (t / 2)) + 400
+    go true k = let e : (r + 3) % 2 ≡ 0 = k tt in omega arith
+    go false k = omega arith
+
+pub nested-hour : (d : Float) → Upto d (whole 3600000) → 3 * spinnerScoreOf d ≤ 2 * legacyOf d + 400
+unfolding spinnerScoreOf legacyOf
+nested-hour d h =
+    let n = nested-thirds (totalHalfSpins d) (requiredHalfSpins d) (required-half d h) in
+    let w = walked-is 1100 100 (requiredHalfSpins d + 3) (totalHalfSpins d) in
+    omega (arith, n, w)

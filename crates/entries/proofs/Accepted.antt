@@ -5,8 +5,7 @@ use mathlib.Core.Logic.{_≢_}
 use mathlib.Core.Bool.{Bool, true, false, cond}
 use mathlib.Core.List.{List, [], _∷_}
 use native.Mathlib.Omega.{arith}
-use native.Mathlib.Nat.{mul-le-mul, mul-le-mul-left, le-trans}
-use native.Mathlib.Decide.{ℕ-discrete}
+use native.Mathlib.Nat.{mul-le-mul, mul-le-mul-left}
 use lib.Dec.{T}
 use lib.Ieee.{Float, ofBits, ofInt}
 use lib.ListN.{length, getD}
@@ -20,7 +19,7 @@ use Rattle.simulator.specs.Combo.{gain, gainBefore, combosBefore, firstNoSlider
 use Rattle.simulator.proofs.Bonus.{legacy-hour, nested-hour}
 use Rattle.simulator.proofs.Sums.{items-count}
 use Rattle.entries.specs.Entry.{accuracyGain, standardisedGain, isCircle, isSlider, isSpinner, repeatsIn, ticksIn, spinnerScoreIn, total, entryOf, wordsOf, limitList, inLimits}
-use Rattle.entries.proofs.Limits.{within-of}
+use Rattle.entries.proofs.Limits.{within-of, at-each}
 
 -- ---- sums over objects
 total-most : (v : Kind → ℕ) (c : ℕ) (os : List Object) → Each ObjectWithin os → ((k : Kind) → KindWithin k → v k ≤ c) → total v os ≤ c * length os
@@ -188,11 +187,6 @@ words-within os w few low =
 
 pub entry-within : (os : List Object) → Each ObjectWithin os → length os ≤ 8192 → bonus os ≤ 2147483647 → inLimits (entryOf os) ≡ true
 unfolding entryOf
-entry-within os w few low = within-of (entryOf os) (λ i lt. go i lt (ℕ-discrete i 5))
-  where
-    legacy : total kindBonus os ≤ 2147483647
-    legacy = let e = bonus-total os in omega (arith, e, low)
-
-    go : (i : ℕ) → i < 13 → Dec (i ≡ 5) → getD (wordsOf (entryOf os)) i 0 ≤ getD limitList i 0
-    go i lt (yes e) = subst (λ (n : ℕ). getD (wordsOf (entryOf os)) n 0 ≤ getD limitList n 0) (sym e) legacy
-    go i lt (no n) = words-within os w few (omega (arith, low)) i lt n
+entry-within os w few low =
+    let legacy : total kindBonus os ≤ 2147483647 = (let e = bonus-total os in omega (arith, e, low)) in
+    within-of (entryOf os) (at-each 5 legacy (words-within os w few (omega (arith, low))))

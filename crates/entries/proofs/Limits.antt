@@ -1,10 +1,12 @@
 -- What the test of an entry's limits says, word by word, and that joining two entries within them wraps nowhere.
 use Prim.Native.Nat.{ℕ, zero, suc, _+_, _*_, _≤_, _<_, suc-le-suc}
-use mathlib.Core.Path.{_≡_, refl, sym, ap, _∙_}
+use mathlib.Core.Path.{_≡_, refl, sym, ap, _∙_, subst}
+use mathlib.Core.Logic.{_≢_}
 use mathlib.Core.Bool.{Bool, true, false, _&&_, false≢true}
 use mathlib.Core.List.{List, [], _∷_}
 use native.Mathlib.Omega.{arith}
 use native.Mathlib.Nat.{mul-le-mul, not-suc-le-zero, le-of-suc-le-suc, zero-lt-suc}
+use native.Mathlib.Decide.{ℕ-discrete}
 use lib.Dec.{leb, lit<, lit≤}
 use lib.ListN.{length, getD}
 use borrow.Author.Tests.{leb-true, le-leb}
@@ -37,6 +39,14 @@ word-le e h = all-le true (wordsOf e) limitList h
 pub within-of : (e : Entry) → ((i : ℕ) → i < 13 → getD (wordsOf e) i 0 ≤ getD limitList i 0) → inLimits e ≡ true
 unfolding inLimits
 within-of e h = all-le-of true (wordsOf e) limitList refl (lit≤ tt) h
+
+-- what holds of the word at place k, and of the others, holds of each
+pub at-each : {P : ℕ → Type 0} (k : ℕ) → P k → ((i : ℕ) → i < 13 → i ≢ k → P i) → (i : ℕ) → i < 13 → P i
+at-each {P} k here other i lt = go (ℕ-discrete i k)
+  where
+    go : Dec (i ≡ k) → P i
+    go (yes e) = subst P (sym e) here
+    go (no n) = other i lt n
 
 abbrev allMost : List ℕ → Bool
 allMost [] = true

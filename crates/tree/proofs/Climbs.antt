@@ -1,5 +1,5 @@
 -- The steps of `climbed`, as the code takes them.
-use Prim.Native.Nat.{ℕ, zero, suc, _+_, _-_, _/_, _%_, _≤_}
+use Prim.Native.Nat.{ℕ, zero, suc, _-_, _/_, _%_}
 use mathlib.Core.Path.{_≡_, refl, sym, ap, _∙_}
 use mathlib.Core.Bool.{Bool, true, false, not, cond}
 use mathlib.Core.List.{List}
@@ -7,18 +7,17 @@ use native.Mathlib.Omega.{arith}
 use native.Mathlib.Decide.{ℕ-discrete}
 use borrow.Author.Tests.{eq-eqb, ne-eqb, ltb-false, not-false}
 use lib.Dec.{ltb, eqb}
-use lib.ListN.{getD}
 use Rattle.records.specs.Refusals.{Checked, good, refused, _>>=_, _>>_, refuse_when_}
-use Rattle.entries.specs.Entry.{joined, inLimits, wordsOf, limitList}
+use Rattle.entries.specs.Entry.{joined, inLimits}
 use Rattle.entries.specs.Words.{entryAt, putEntry}
 use Rattle.entries.specs.declared.entry.Entry.{Entry}
-use Rattle.entries.proofs.Limits.{word-le, within-of}
 use Rattle.tree.specs.Limited.{withoutLegacy, limited, combinedOf}
 use Rattle.tree.specs.Put.{besideOf, aboveOf, climbed, putOf, orElse}
 use Rattle.tree.specs.declared.Combined.the-variants as combined
 use Rattle.tree.specs.declared.Put.{Put}
 use Rattle.tree.specs.declared.Put.the-variants as put
 use Rattle.records.proofs.Laws.{never}
+use Rattle.tree.proofs.Light.{legacy-in}
 
 -- the pair of e and the entry beside it
 pub beside-pair : (e : ℕ) → besideOf e / 2 ≡ e / 2
@@ -29,28 +28,6 @@ beside-pair e = go (ℕ-discrete (e % 2) 0)
     go (no h) = simp (ne-eqb _ _ h) (omega arith)
 
 -- ---- an entry that passes is within all limits
-legacy-in : (e : Entry) → inLimits (withoutLegacy e) ≡ true → e .«legacy_bonus_score» ≤ 2147483647 → inLimits e ≡ true
-legacy-in e h l = within-of e (place l)
-  where
-    other : (i : ℕ) → i ≤ 12 → getD (wordsOf (withoutLegacy e)) i 0 ≤ getD limitList i 0
-    other i k = word-le (withoutLegacy e) h i (omega (arith, k))
-
-    place : e .«legacy_bonus_score» ≤ 2147483647 → (i : ℕ) → suc i ≤ 13 → getD (wordsOf e) i 0 ≤ getD limitList i 0
-    place l zero k = other 0 (omega arith)
-    place l (suc zero) k = other 1 (omega arith)
-    place l (suc (suc zero)) k = other 2 (omega arith)
-    place l (suc (suc (suc zero))) k = other 3 (omega arith)
-    place l (suc (suc (suc (suc zero)))) k = other 4 (omega arith)
-    place l (suc (suc (suc (suc (suc zero))))) k = l
-    place l (suc (suc (suc (suc (suc (suc zero)))))) k = other 6 (omega arith)
-    place l (suc (suc (suc (suc (suc (suc (suc zero))))))) k = other 7 (omega arith)
-    place l (suc (suc (suc (suc (suc (suc (suc (suc zero)))))))) k = other 8 (omega arith)
-    place l (suc (suc (suc (suc (suc (suc (suc (suc (suc zero))))))))) k = other 9 (omega arith)
-    place l (suc (suc (suc (suc (suc (suc (suc (suc (suc (suc zero)))))))))) k = other 10 (omega arith)
-    place l (suc (suc (suc (suc (suc (suc (suc (suc (suc (suc (suc zero))))))))))) k = other 11 (omega arith)
-    place l (suc (suc (suc (suc (suc (suc (suc (suc (suc (suc (suc (suc zero)))))))))))) k = other 12 (omega arith)
-    place l (suc (suc (suc (suc (suc (suc (suc (suc (suc (suc (suc (suc (suc i))))))))))))) k = absurd (omega (arith, k))
-
 pub limited-in : (e u : Entry) → limited e ≡ good u → inLimits u ≡ true
 unfolding limited _>>_ refuse_when_
 limited-in e u h = go (inLimits (withoutLegacy e)) refl (ltb 2147483647 (e .«legacy_bonus_score»)) refl h

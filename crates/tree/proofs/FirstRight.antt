@@ -1,7 +1,6 @@
 -- A read of the board of a map finds the entry of the first p objects: the entries that it combines are those of neighbouring runs of places.
 use Prim.Native.Nat.{ℕ, zero, suc, _+_, _-_, _*_, _/_, _^_, _≤_, _<_}
 use mathlib.Core.Path.{_≡_, refl, sym, ap, ap₂, _∙_, subst}
-use mathlib.Core.Logic.{_≢_}
 use mathlib.Core.Bool.{Bool, true, false, not}
 use mathlib.Core.List.{List, [], _∷_, _++_}
 use native.Mathlib.Omega.{arith}
@@ -9,37 +8,26 @@ use native.Mathlib.Nat.{add-zero, zero-add, add-suc, suc-add, add-comm, zero-mul
 use native.Mathlib.Numerals.{sub-one, add-one}
 use native.Mathlib.Decide.{decLe, ℕ-discrete}
 use borrow.Author.Tests.{le-ltb}
-use lib.ListN.{length, getD, take, drop, take-append-drop}
+use lib.ListN.{take, drop, take-append-drop}
 use lib.Seq.{take-add}
 use lib.Pow.{pow-pos, pow-add, pow-mono}
 use Rattle.records.specs.Refusals.{Checked, good, refused, _>>_, refuse_when_}
 use Rattle.records.specs.Objects.{Object}
-use Rattle.entries.specs.Entry.{none, joined, entryOf, wordsOf, limitList, inLimits}
+use Rattle.entries.specs.Entry.{none, joined, entryOf, inLimits}
 use Rattle.entries.specs.Words.{entryAt}
 use Rattle.entries.specs.declared.entry.Entry.{Entry}
 use Rattle.entries.proofs.Accepted.{entry-first}
-use Rattle.entries.proofs.Limits.{word-le, within-of}
+use Rattle.entries.proofs.Limits.{word-le}
 use Rattle.entries.proofs.Runs.{entry-append, entry-none}
 use Rattle.tree.specs.Board.{covered, entryIn}
 use Rattle.tree.specs.First.{walked}
-use Rattle.tree.specs.Limited.{withoutLegacy, limited, afterOf}
+use Rattle.tree.specs.Limited.{limited, afterOf}
 use Rattle.tree.proofs.Covers.{covered-run, covered-fuel}
 use Rattle.tree.proofs.Firsts.{skips, takes}
+use Rattle.tree.proofs.Light.{light-of}
 use Rattle.tree.proofs.Within.{parts-in}
 
 -- an entry within all limits passes both checks of a combination
-light-of : (e : Entry) → inLimits e ≡ true → inLimits (withoutLegacy e) ≡ true
-light-of e h = within-of (withoutLegacy e) place
-  where
-    place : (i : ℕ) → i < 13 → getD (wordsOf (withoutLegacy e)) i 0 ≤ getD limitList i 0
-    place zero k = word-le e h 0 k
-    place (suc zero) k = word-le e h 1 k
-    place (suc (suc zero)) k = word-le e h 2 k
-    place (suc (suc (suc zero))) k = word-le e h 3 k
-    place (suc (suc (suc (suc zero)))) k = word-le e h 4 k
-    place (suc (suc (suc (suc (suc zero))))) k = omega arith
-    place (suc (suc (suc (suc (suc (suc i)))))) k = word-le e h (suc (suc (suc (suc (suc (suc i)))))) k
-
 after-good : (a w : Entry) → inLimits w ≡ true → inLimits (joined a w) ≡ true → afterOf a w ≡ good (joined a w)
 unfolding afterOf limited _>>_ refuse_when_
 after-good a w h k =

@@ -6,10 +6,9 @@ use mathlib.Core.Logic.{_≢_, _⊎_, inl, inr}
 use mathlib.Core.Bool.{Bool, true, false, not, cond}
 use mathlib.Core.List.{List, [], _∷_, _++_}
 use native.Mathlib.Omega.{arith}
-use native.Mathlib.Nat.{not-suc-le-zero, suc-ne-zero}
+use native.Mathlib.Nat.{suc-ne-zero}
 use native.Mathlib.Decide.{ℕ-discrete}
 use borrow.Author.Tests.{eq-eqb, ne-eqb, lt-ltb, le-ltb, ltb-true, ltb-false}
-use lib.Arith.{bin-ind}
 use lib.Dec.{ltb}
 use lib.ListN.{length, drop, set}
 use Rattle.records.specs.Refusals.{Checked, good, refused, _>>=_, _>>_, refuse_when_}
@@ -23,7 +22,7 @@ use Rattle.tree.specs.Put.{besideOf, aboveOf, climbed}
 use Rattle.tree.specs.Board.{entryIn}
 use Rattle.tree.proofs.Climbs.{at-top, stops, stops-above, goes-on}
 use Rattle.tree.proofs.Covers.{entry-node, entry-off, Off, Top, even, odd}
-use Rattle.tree.proofs.Within.{all-in}
+use Rattle.tree.proofs.Within.{all-in, all-light, legacy-top}
 
 -- the halves of the entry above e, in their order
 halves : (l : ℕ) (os : List Object) (e : ℕ) → 2 ≤ e → e < 2 * 2 ^ l
@@ -55,32 +54,6 @@ off-above (suc n) x e h = (omega arith, off-above n x (e / 2) (omega arith))
 top-two : (n e : ℕ) → Top (suc n) e → 2 ≤ e
 top-two zero e t = omega arith
 top-two (suc n) e t = let h = top-two n (e / 2) t in omega arith
-
--- ---- the legacy bonus of an entry is at most that of the top
-legacy-node : (a b : Entry) → (a .«legacy_bonus_score» ≤ joined a b .«legacy_bonus_score») × (b .«legacy_bonus_score» ≤ joined a b .«legacy_bonus_score»)
-unfolding joined
-legacy-node a b = (omega arith, omega arith)
-
-legacy-top : (l : ℕ) (os : List Object) (x : ℕ) → 1 ≤ x → x < 2 * 2 ^ l → entryIn l os x .«legacy_bonus_score» ≤ entryIn l os 1 .«legacy_bonus_score»
-legacy-top l os = bin-ind (λ x. 1 ≤ x → x < 2 * 2 ^ l → Low x) (λ h g. absurd (not-suc-le-zero h)) step
-  where
-    Low : ℕ → Type 0
-    Low x = entryIn l os x .«legacy_bonus_score» ≤ entryIn l os 1 .«legacy_bonus_score»
-
-    step : (x : ℕ) → (1 ≤ x / 2 → x / 2 < 2 * 2 ^ l → Low (x / 2)) → 1 ≤ x → x < 2 * 2 ^ l → Low x
-    step x ih h g = go (ℕ-discrete x 1) (ℕ-discrete (x % 2) 0)
-      where
-        both : x ≢ 1 → Low (2 * (x / 2)) × Low (2 * (x / 2) + 1)
-        both ne =
-            let up = ih (omega arith) (omega arith) in
-            let node = legacy-node (entryIn l os (2 * (x / 2))) (entryIn l os (2 * (x / 2) + 1)) in
-            let same = ap (λ (e : Entry). e .«legacy_bonus_score») (entry-node l os (x / 2) (omega arith) (omega arith)) in
-            (omega (arith, up, node .0, same), omega (arith, up, node .1, same))
-
-        go : Dec (x ≡ 1) → Dec (x % 2 ≡ 0) → Low x
-        go (yes e) d = subst Low (sym e) (omega arith)
-        go (no e) (yes d) = subst Low (even x d) (both e .0)
-        go (no e) (no d) = subst Low (odd x d) (both e .1)
 
 -- ---- an entry whose words but the legacy bonus are within the limits
 limited-low : (e : Entry) → inLimits (withoutLegacy e) ≡ true → e .«legacy_bonus_score» ≤ 2147483647 → limited e ≡ good e
@@ -125,7 +98,10 @@ module _ (l : ℕ) (os : List Object) (p : ℕ) (o : Object) (in-p : p < 2 ^ l) 
     done : (b′ : List ℕ) → climbed n b e v ≡ good b′ → F′ 1 .«legacy_bonus_score» ≤ 2147483647 → After n e b′ → Climbs n e v
 
   module _ (honest : (x : ℕ) → In x → entryAt b x ≡ F x) (room : 2 * 2 ^ l * 13 ≤ length b) (ok : inLimits (F 1) ≡ true)
-      (light : (x : ℕ) → In x → inLimits (withoutLegacy (F′ x)) ≡ true) where
+      (light-top : inLimits (withoutLegacy (F′ 1)) ≡ true) where
+    light : (x : ℕ) → In x → inLimits (withoutLegacy (F′ x)) ≡ true
+    light x i = all-light l (set os p o) light-top x (i .0) (i .1)
+
     -- one more store, at e, of what belongs there
     put-after : (n e : ℕ) (v : Entry) (b′ : List ℕ) → In e → v ≡ F′ e → After n (e / 2) b′ → After (suc n) e (putEntry b′ e v)
     put-after n e v b′ h is a = record {

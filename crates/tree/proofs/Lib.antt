@@ -1,4 +1,5 @@
 pub mod Levels
+pub mod Light
 pub mod Climbs
 pub mod Firsts
 pub mod Covers
@@ -7,3 +8,4 @@ pub mod Honest
 pub mod FirstRight
 pub mod Builds
 pub mod BuildRight
+pub mod Changed

@@ -27,7 +27,7 @@ use Rattle.tree.specs.Limited.{withoutLegacy}
 use Rattle.tree.specs.Put.{climbed}
 use Rattle.tree.proofs.Levels.{levels-hold}
 use Rattle.tree.proofs.Light.{entry-light}
-use Rattle.tree.proofs.Covers.{entry-top, entry-leaf, entry-off, top-of, Off}
+use Rattle.tree.proofs.Covers.{entry-top, entry-leaf, entry-off, top-of, off-zero, Off}
 use Rattle.tree.proofs.Within.{all-in}
 use Rattle.tree.proofs.Honest.{climbs, After, Climbs, high, done}
 use Rattle.tree.proofs.FirstRight.{walk-right}
@@ -108,24 +108,19 @@ module _ (os : List Object) (r : List ℕ) (w : Each ObjectWithin os) (few : len
     left-is : (b′ : List ℕ) → After l os p o in-places b l (2 ^ l + p) b′ → b′ ≡ boardOf (set os p o) ++ r
     unfolding boardOf boardEntry
     left-is b′ a =
-        is-words (boardEntry (set os p o)) (2 * 2 ^ l) b′ 0 (omega (arith, room, a .size))
-        (λ x h. ap (λ (y : ℕ). entryAt b′ y) (sym (zero-add x)) ∙ go (0 + x) (rw zero-add h) (a .entries (0 + x)))
+        is-words (boardEntry (set os p o)) (2 * 2 ^ l) b′ 0 (omega (arith, room, a .kept .size))
+        (λ x h. ap (λ (y : ℕ). entryAt b′ y) (sym (zero-add x)) ∙ go (0 + x) (rw zero-add h))
         ∙ ap₂ (λ (m : ℕ) (v : List ℕ). wordsFrom (boardEntry (set os p o)) 0 (2 * capOf m) ++ v) (sym same-length)
-        (a .rest ∙ drop-at (boardOf os) r (2 * 2 ^ l * 13) (words-length (boardEntry os) (2 * 2 ^ l) 0))
+        (a .kept .behind (2 * 2 ^ l * 13) (omega (arith, in-places)) ∙ drop-at (boardOf os) r (2 * 2 ^ l * 13) (words-length (boardEntry os) (2 * 2 ^ l) 0))
       where
-        go : (x : ℕ) → x < 2 * 2 ^ l
-            → ((1 ≤ x) × (x < 2 * 2 ^ l) → (entryAt b′ x ≡ entryIn l (set os p o) x) ⊎ ((entryAt b′ x ≡ entryAt b x) × Off l x (2 ^ l + p)))
-            → entryAt b′ x ≡ boardEntry (set os p o) x
-        go zero h s = a .zeroth ∙ board-at os r 0 h
-        go (suc x) h s = pick (s (omega arith, h))
+        go : (x : ℕ) → x < 2 * 2 ^ l → entryAt b′ x ≡ boardEntry (set os p o) x
+        go zero h = a .kept .others 0 (off-zero l (2 ^ l + p) (top-of l p in-places)) ∙ board-at os r 0 h
+        go (suc x) h = pick (a .new (suc x) (omega arith, h)) ∙ sym (board-entry (set os p o) (length os) (suc x) same-length (omega arith))
           where
-            new : boardEntry (set os p o) (suc x) ≡ entryIn l (set os p o) (suc x)
-            new = board-entry (set os p o) (length os) (suc x) same-length (omega arith)
-
-            pick : (entryAt b′ (suc x) ≡ entryIn l (set os p o) (suc x)) ⊎ ((entryAt b′ (suc x) ≡ entryAt b (suc x)) × Off l (suc x) (2 ^ l + p))
-                → entryAt b′ (suc x) ≡ boardEntry (set os p o) (suc x)
-            pick (inl e) = e ∙ sym new
-            pick (inr e) = e .0 ∙ honest (suc x) (omega arith, h) ∙ sym (entry-off l os p o (suc x) in-places (omega arith) (e .1)) ∙ sym new
+            pick : (entryAt b′ (suc x) ≡ entryIn l (set os p o) (suc x)) ⊎ Off l (suc x) (2 ^ l + p) → entryAt b′ (suc x) ≡ entryIn l (set os p o) (suc x)
+            pick (inl e) = e
+            pick (inr off) =
+                a .kept .others (suc x) off ∙ honest (suc x) (omega arith, h) ∙ sym (entry-off l os p o (suc x) in-places (omega arith) off)
 
     leaf-low : entryIn l (set os p o) (2 ^ l + p) .«legacy_bonus_score» ≤ 2147483647
     unfolding bonus

@@ -56,20 +56,24 @@ covered-run os (suc n) c x h g =
 
 -- ---- one more level of fuel changes nothing
 
+-- one level down: twice the entry, half the width
+pub deeper : (c n x y : ℕ) → c ≤ x * 2 ^ suc n → 2 * x ≤ y → c ≤ y * 2 ^ n
+deeper c n x y h g =
+    let same : x * 2 ^ suc n ≡ 2 * x * 2 ^ n = ap (λ (m : ℕ). x * m) (pow-suc 2 n) ∙ omega (arith, mul-assoc x (2 ^ n) 2, mul-assoc 2 x (2 ^ n)) in
+    le-trans (subst (λ (m : ℕ). c ≤ m) same h) (mul-le-mul-right {m = 2 * x} (2 ^ n) g)
+
 pub covered-fuel : (os : List Object) (c n x : ℕ) → c ≤ x * 2 ^ n → covered (suc n) c os x ≡ covered (suc (suc n)) c os x
 covered-fuel os c zero x h =
     let g : c ≤ x = simp mul-one at h in
     covered-leaf c os 0 x g ∙ sym (covered-leaf c os 1 x g)
 covered-fuel os c (suc n) x h = go (λ y k. covered-fuel os c n y k) (decLe c x)
   where
-    deep : (y : ℕ) → 2 * x ≤ y → c ≤ y * 2 ^ n
-    deep y g = le-trans (subst (λ (m : ℕ). c ≤ m) (ap (λ (m : ℕ). x * m) (pow-suc 2 n) ∙ omega (arith, mul-assoc x (2 ^ n) 2, mul-assoc 2 x (2 ^ n))) h) (mul-le-mul-right {m = 2 * x} (2 ^ n) g)
-
-    go : ((y : ℕ) → c ≤ y * 2 ^ n → covered (suc n) c os y ≡ covered (suc (suc n)) c os y) → Dec (c ≤ x) → covered (suc (suc n)) c os x ≡ covered (suc (suc (suc n))) c os x
+    go : ((y : ℕ) → c ≤ y * 2 ^ n → covered (suc n) c os y ≡ covered (suc (suc n)) c os y) → Dec (c ≤ x)
+        → covered (suc (suc n)) c os x ≡ covered (suc (suc (suc n))) c os x
     go ih (yes g) = covered-leaf c os (suc n) x g ∙ sym (covered-leaf c os (suc (suc n)) x g)
     go ih (no g) =
         covered-node c os (suc n) x (omega arith)
-        ∙ ap₂ (λ (a b : List Object). a ++ b) (ih (2 * x) (deep (2 * x) (omega arith))) (ih (2 * x + 1) (deep (2 * x + 1) (omega arith)))
+        ∙ ap₂ (λ (a b : List Object). a ++ b) (ih (2 * x) (deeper c n x (2 * x) h (omega arith))) (ih (2 * x + 1) (deeper c n x (2 * x + 1) h (omega arith)))
         ∙ sym (covered-node c os (suc (suc n)) x (omega arith))
 
 -- ---- the entries of a tree of l levels
@@ -78,9 +82,11 @@ pub entry-node : (l : ℕ) (os : List Object) (x : ℕ) → 1 ≤ x → x < 2 ^ 
 unfolding entryIn
 entry-node zero os x h g = absurd (not-suc-le-zero (le-trans h (le-of-suc-le-suc g)))
 entry-node (suc l) os x h g =
-    let deep : (y : ℕ) → 2 * x ≤ y → 2 ^ suc l ≤ y * 2 ^ l = λ y k. le-trans (subst (λ (m : ℕ). m ≤ 2 * x * 2 ^ l) (sym (pow-suc 2 l)) (omega (arith, mul-le-mul-right {m = 2} {n = 2 * x} (2 ^ l) (omega arith)))) (mul-le-mul-right {m = 2 * x} (2 ^ l) k) in
+    let all : 2 ^ suc l ≤ x * 2 ^ suc l = subst (λ (m : ℕ). m ≤ x * 2 ^ suc l) (one-mul (2 ^ suc l)) (mul-le-mul-right {m = 1} (2 ^ suc l) h) in
+    let deep : (y : ℕ) → 2 * x ≤ y → 2 ^ suc l ≤ y * 2 ^ l = (λ y k. deeper (2 ^ suc l) l x y all k) in
     ap entryOf (covered-node (2 ^ suc l) os (suc l) x g
-    ∙ ap₂ (λ (a b : List Object). a ++ b) (covered-fuel os (2 ^ suc l) l (2 * x) (deep (2 * x) (omega arith))) (covered-fuel os (2 ^ suc l) l (2 * x + 1) (deep (2 * x + 1) (omega arith))))
+    ∙ ap₂ (λ (a b : List Object). a ++ b) (covered-fuel os (2 ^ suc l) l (2 * x) (deep (2 * x) (omega arith)))
+    (covered-fuel os (2 ^ suc l) l (2 * x + 1) (deep (2 * x + 1) (omega arith))))
     ∙ entry-append (covered (suc (suc l)) (2 ^ suc l) os (2 * x)) (covered (suc (suc l)) (2 ^ suc l) os (2 * x + 1))
 
 pub entry-top : (l : ℕ) (os : List Object) → length os ≤ 2 ^ l → entryIn l os 1 ≡ entryOf os
@@ -90,7 +96,7 @@ entry-top l os h =
     ∙ ap (λ (m : ℕ). take (2 ^ l) (drop m os)) (zero-mul (2 ^ l))
     ∙ take-all (2 ^ l) os h)
 
-one-set : (os : List Object) (p : ℕ) (o : Object) → p < length os → take 1 (drop p (set os p o)) ≡ o ∷ []
+pub one-set : (os : List Object) (p : ℕ) (o : Object) → p < length os → take 1 (drop p (set os p o)) ≡ o ∷ []
 one-set [] p o h = absurd (not-suc-le-zero h)
 one-set (y ∷ os) zero o h = refl
 one-set (y ∷ os) (suc p) o h = one-set os p o (le-of-suc-le-suc h)
@@ -127,9 +133,18 @@ top-of (suc l) p h = subst (Top l) (half l p) (top-of l (p / 2) (omega (arith, p
     half : (l p : ℕ) → 2 ^ l + p / 2 ≡ (2 ^ suc l + p) / 2
     half l p = omega (arith, pow-suc 2 l)
 
+pub top-two : (n e : ℕ) → Top (suc n) e → 2 ≤ e
+top-two zero e t = omega arith
+top-two (suc n) e t = let h = top-two n (e / 2) t in omega arith
+
 pub off-self : (n x e : ℕ) → Off n x e → x ≢ e
 off-self zero x e h = h
 off-self (suc n) x e h = h .0
+
+-- entry 0 is off every way
+pub off-zero : (n e : ℕ) → Top n e → Off n 0 e
+off-zero zero e t = omega arith
+off-zero (suc n) e t = let h = top-two n e t in (omega (arith, h), off-zero n (e / 2) t)
 
 -- where an entry is off the way, so are the two below it
 pub off-below : (n x e : ℕ) → Top n e → 1 ≤ x → Off n x e → Off n (2 * x) e × Off n (2 * x + 1) e

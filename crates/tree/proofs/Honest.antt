@@ -3,25 +3,26 @@
 use Prim.Native.Nat.{ℕ, zero, suc, _+_, _-_, _*_, _/_, _%_, _^_, _≤_, _<_}
 use mathlib.Core.Path.{_≡_, refl, sym, ap, ap₂, _∙_, subst}
 use mathlib.Core.Logic.{_≢_, _⊎_, inl, inr}
-use mathlib.Core.Bool.{Bool, true, false, not, cond}
-use mathlib.Core.List.{List, [], _∷_, _++_}
+use mathlib.Core.Bool.{Bool, true, false, cond}
+use mathlib.Core.List.{List}
 use native.Mathlib.Omega.{arith}
 use native.Mathlib.Nat.{suc-ne-zero}
 use native.Mathlib.Decide.{ℕ-discrete}
 use borrow.Author.Tests.{eq-eqb, ne-eqb, lt-ltb, le-ltb, ltb-true, ltb-false}
 use lib.Dec.{ltb}
-use lib.ListN.{length, drop, set}
-use Rattle.records.specs.Refusals.{Checked, good, refused, _>>=_, _>>_, refuse_when_}
+use lib.ListN.{length, set}
+use Rattle.records.specs.Refusals.{Checked, good, refused, _>>_, refuse_when_}
 use Rattle.records.specs.Objects.{Object}
 use Rattle.entries.specs.Entry.{joined, inLimits}
 use Rattle.entries.specs.Words.{entryAt, putEntry}
 use Rattle.entries.specs.declared.entry.Entry.{Entry}
-use Rattle.entries.proofs.WordLaws.{put-same, put-other, put-length, put-drop}
+use Rattle.entries.proofs.WordLaws.{put-same, put-other}
 use Rattle.tree.specs.Limited.{withoutLegacy, limited}
 use Rattle.tree.specs.Put.{besideOf, aboveOf, climbed}
 use Rattle.tree.specs.Board.{entryIn}
 use Rattle.tree.proofs.Climbs.{at-top, stops, stops-above, goes-on}
-use Rattle.tree.proofs.Covers.{entry-node, entry-off, Off, Top, even, odd}
+use Rattle.tree.proofs.Covers.{entry-node, entry-off, Off, Top, top-two, even, odd}
+use Rattle.tree.proofs.Kept.{Kept, stored, stored-more}
 use Rattle.tree.proofs.Within.{all-in, all-light, legacy-top}
 
 -- the halves of the entry above e, in their order
@@ -50,10 +51,6 @@ beside-near e h = go (ℕ-discrete (e % 2) 0)
 off-above : (n x e : ℕ) → e < x → Off n x e
 off-above zero x e h = omega arith
 off-above (suc n) x e h = (omega arith, off-above n x (e / 2) (omega arith))
-
-top-two : (n e : ℕ) → Top (suc n) e → 2 ≤ e
-top-two zero e t = omega arith
-top-two (suc n) e t = let h = top-two n (e / 2) t in omega arith
 
 -- ---- an entry whose words but the legacy bonus are within the limits
 limited-low : (e : Entry) → inLimits (withoutLegacy e) ≡ true → e .«legacy_bonus_score» ≤ 2147483647 → limited e ≡ good e
@@ -88,10 +85,8 @@ module _ (l : ℕ) (os : List Object) (p : ℕ) (o : Object) (in-p : p < 2 ^ l) 
 
   -- the board b′ after a climb of n levels from e
   pub record After (n e : ℕ) (b′ : List ℕ) : Type 0 where
-    pub size : length b′ ≡ length b
-    pub rest : drop (2 * 2 ^ l * 13) b′ ≡ drop (2 * 2 ^ l * 13) b
-    pub entries : (x : ℕ) → In x → (entryAt b′ x ≡ F′ x) ⊎ ((entryAt b′ x ≡ entryAt b x) × Off n x e)
-    pub zeroth : entryAt b′ 0 ≡ entryAt b 0
+    pub kept : Kept n e b b′
+    pub new : (x : ℕ) → In x → (entryAt b′ x ≡ F′ x) ⊎ Off n x e
 
   pub data Climbs (n e : ℕ) (v : Entry) : Type 0 where
     high : climbed n b e v ≡ refused 7 → 2147483647 < F′ 1 .«legacy_bonus_score» → Climbs n e v
@@ -104,18 +99,12 @@ module _ (l : ℕ) (os : List Object) (p : ℕ) (o : Object) (in-p : p < 2 ^ l) 
 
     -- one more store, at e, of what belongs there
     put-after : (n e : ℕ) (v : Entry) (b′ : List ℕ) → In e → v ≡ F′ e → After n (e / 2) b′ → After (suc n) e (putEntry b′ e v)
-    put-after n e v b′ h is a = record {
-      size = put-length b′ e v ∙ a .size;
-      rest = put-drop b′ e v (2 * 2 ^ l * 13) (omega arith) ∙ a .rest;
-      entries = λ x i. go x (ℕ-discrete x e) (a .entries x i);
-      zeroth = put-other b′ e 0 v (omega arith) ∙ a .zeroth;
-    }
+    put-after n e v b′ h is a = record { kept = stored-more n e v b b′ (putEntry b′ e v) (a .kept) refl; new = λ x i. go x (ℕ-discrete x e) (a .new x i) }
       where
-        go : (x : ℕ) → Dec (x ≡ e) → (entryAt b′ x ≡ F′ x) ⊎ ((entryAt b′ x ≡ entryAt b x) × Off n x (e / 2))
-            → (entryAt (putEntry b′ e v) x ≡ F′ x) ⊎ ((entryAt (putEntry b′ e v) x ≡ entryAt b x) × Off (suc n) x e)
-        go x (yes d) s = inl (subst (λ (y : ℕ). entryAt (putEntry b′ e v) y ≡ F′ y) (sym d) (put-same b′ e v (omega (arith, a .size)) ∙ is))
+        go : (x : ℕ) → Dec (x ≡ e) → (entryAt b′ x ≡ F′ x) ⊎ Off n x (e / 2) → (entryAt (putEntry b′ e v) x ≡ F′ x) ⊎ Off (suc n) x e
+        go x (yes d) s = inl (subst (λ (y : ℕ). entryAt (putEntry b′ e v) y ≡ F′ y) (sym d) (put-same b′ e v (omega (arith, a .kept .size)) ∙ is))
         go x (no d) (inl s) = inl (put-other b′ e x v d ∙ s)
-        go x (no d) (inr s) = inr (put-other b′ e x v d ∙ s .0, (d, s .1))
+        go x (no d) (inr off) = inr (d, off)
 
     high-up : (x : ℕ) → In x → 2147483647 < F′ x .«legacy_bonus_score» → 2147483647 < F′ 1 .«legacy_bonus_score»
     high-up x i h = let t = legacy-top l (set os p o) x (i .0) (i .1) in omega (arith, t, h)
@@ -148,16 +137,11 @@ module _ (l : ℕ) (os : List Object) (p : ℕ) (o : Object) (in-p : p < 2 ^ l) 
     pub climbs : (n e : ℕ) (v : Entry) → Top n e → In e → Near n e → v ≡ F′ e → F′ e .«legacy_bonus_score» ≤ 2147483647 → Climbs n e v
     climbs zero e v t i near is low =
         done (putEntry b e v) (at-top 0 b e v refl) (subst (λ (y : ℕ). F′ y .«legacy_bonus_score» ≤ 2147483647) t low)
-        (record {
-          size = put-length b e v;
-          rest = put-drop b e v (2 * 2 ^ l * 13) (omega arith);
-          entries = λ x j. go x (ℕ-discrete x e);
-          zeroth = put-other b e 0 v (omega arith);
-        })
+        (record { kept = stored e v b (putEntry b e v) refl; new = λ x j. go x (ℕ-discrete x e) })
       where
-        go : (x : ℕ) → Dec (x ≡ e) → (entryAt (putEntry b e v) x ≡ F′ x) ⊎ ((entryAt (putEntry b e v) x ≡ entryAt b x) × (x ≢ e))
+        go : (x : ℕ) → Dec (x ≡ e) → (entryAt (putEntry b e v) x ≡ F′ x) ⊎ (x ≢ e)
         go x (yes d) = inl (subst (λ (y : ℕ). entryAt (putEntry b e v) y ≡ F′ y) (sym d) (put-same b e v (omega arith) ∙ is))
-        go x (no d) = inr (put-other b e x v d, d)
+        go x (no d) = inr d
     climbs (suc n) e v t i near is low =
         let two = top-two n e t in
         let nr = beside-near e two in

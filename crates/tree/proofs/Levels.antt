@@ -46,3 +46,16 @@ levels-from (suc k) n l h = go (levels-from k n (suc l) (subst (λ (m : ℕ). n 
 pub levels-hold : (n : ℕ) → n ≤ 8192 → n ≤ 2 ^ levelsOf n
 unfolding levelsOf
 levels-hold n h = levels-from 13 n 0 h
+
+levels-upto : (k n l : ℕ) → levelsFrom k n l ≤ l + k
+unfolding levelsFrom
+levels-upto zero n l = omega arith
+levels-upto (suc k) n l = go (levels-upto k n (suc l)) (leb n (2 ^ l))
+  where
+    go : levelsFrom k n (suc l) ≤ suc l + k → (b : Bool) → cond b l (levelsFrom k n (suc l)) ≤ l + suc k
+    go ih true = omega arith
+    go ih false = omega (arith, ih)
+
+pub levels-most : (n : ℕ) → levelsOf n ≤ 13
+unfolding levelsOf
+levels-most n = levels-upto 13 n 0

@@ -4,8 +4,10 @@ pub mod Climbs
 pub mod Firsts
 pub mod Covers
 pub mod Within
+pub mod Kept
 pub mod Honest
 pub mod FirstRight
 pub mod Builds
 pub mod BuildRight
 pub mod Changed
+pub mod Touched

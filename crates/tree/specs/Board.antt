@@ -1,5 +1,6 @@
 -- Document 01, "The board": the board of a map, each entry from the objects that it covers, and its start table.
-use Prim.Native.Nat.{ℕ, zero, suc, _+_, _-_, _*_, _^_}
+use Prim.Native.Nat.{ℕ, zero, suc, _+_, _-_, _*_, _^_, _≤_, _<_}
+use mathlib.Core.Path.{_≡_}
 use mathlib.Core.Bool.{Bool, cond}
 use mathlib.Core.List.{List, [], _∷_, _++_, map}
 use lib.Dec.{leb}
@@ -16,6 +17,12 @@ use Rattle.tree.specs.Size.{levelsOf, capOf}
 unfoldable pub covered : ℕ → ℕ → List Object → ℕ → List Object
 covered zero c os x = []
 covered (suc n) c os x = cond (leb c x) (take 1 (drop (x - c) os)) (covered n c os (2 * x) ++ covered n c os (2 * x + 1))
+
+-- the same of places: entry e covers place p
+pub data Covers (c : ℕ) : ℕ → ℕ → Type 0 where
+  own : {e p : ℕ} → e ≡ c + p → Covers c e p
+  left : {e p : ℕ} → 1 ≤ e → e < c → Covers c (2 * e) p → Covers c e p
+  right : {e p : ℕ} → 1 ≤ e → e < c → Covers c (2 * e + 1) p → Covers c e p
 
 -- an entry of a tree of l levels
 unfoldable pub entryIn : ℕ → List Object → ℕ → Entry

@@ -66,8 +66,7 @@ module _ (b : List ℕ) (ts : List Float) (n : ℕ) where
       go (refused m) q e = never (cc)
       go (good u) q e =
           let s : size ≡ record { levels = levelsOf n; cap = capOf n } = cc in
-          let m = measured u q in
-          (
+          let m = measured u q in (
             q,
             record {
               levels = ap (λ (z : Size). z .levels) s;

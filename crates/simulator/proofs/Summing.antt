@@ -58,7 +58,7 @@ ContentWithin (break b) = BreakWithin b
 ContentWithin (object o) = ObjectWithin o
 ContentWithin (play p) = Unit
 
-kind-few : (k : Kind) → KindWithin k → nestedCount (kindView k) ≤ 1000
+pub kind-few : (k : Kind) → KindWithin k → nestedCount (kindView k) ≤ 1000
 kind-few circle h = omega arith
 kind-few (slider is) h = let e = items-count is in omega (arith, e, h)
 kind-few (spinner d) h = omega arith

@@ -1,37 +1,50 @@
+-- The drain and the multiplier are those of the definition; the words within the limits leave room in the attributes.
+use mathlib.Core.Path.{_≡_, refl, sym, ap, _∙_, subst}
+use native.Mathlib.Omega.{arith}
+use Rattle.ruleset.specs.Stars.{multiplierOf}
+use Rattle.ruleset.proofs.Signs.{kept}
+use Rattle.simulator.specs.Limits.{Bounded, Counted}
+use Rattle.entries.proofs.Limits.{word-le}
+use Rattle.entries.proofs.Sound.{state-bounded, counts-bounded}
+use Rattle.board.specs.Read.{attributesFrom}
+use Rattle.board.proofs.Readings as readings
 use borrow.Author.Needs.{needs}
 use Rattle.board.proofs.read.attributes_from.Statement.{statement}
 use Rattle.board.proofs.read.attributes_from.Tie as tie
-use Rattle.board.proofs.read.attributes_from.Reads as reads
-use Rattle.board.proofs.read.attributes_from.Lts as lts
 use Rattle.board.proofs.read.drain_from.Reads as drain-from-reads
 use Rattle.entries.proofs.values.counts_in.Reads as counts-in-reads
 use Rattle.entries.proofs.values.state_in.Reads as state-in-reads
 use Rattle.ruleset.proofs.score_multiplier.score_multiplier.Reads as score-multiplier-reads
 use Rattle.simulator.proofs.attributes.score_attributes.Reads as score-attributes-reads
 
--- src/read.rt:112:9
 drain-from-requires : tie.Need-drain-from-requires
 drain-from-requires c κs = search needs
 
--- src/read.rt:113:9
 score-multiplier-requires : tie.Need-score-multiplier-requires
-score-multiplier-requires c κs = ?
+score-multiplier-requires c κs =
+    let objects = word-le (c .before .before .before .before .args .found .sum) (c .before .before .before .before .pre .2) 0 (omega arith) in
+    (c .before .before .before .before .pre .1, omega (arith, objects), search needs)
 
--- src/read.rt:114:22
 state-in-requires : tie.Need-state-in-requires
 state-in-requires c κs = search needs
 
--- src/read.rt:114:37
 counts-in-requires : tie.Need-counts-in-requires
 counts-in-requires c κs = search needs
 
--- src/read.rt:114:5
 score-attributes-requires : tie.Need-score-attributes-requires
-score-attributes-requires c κs = ?
+score-attributes-requires c κs = (
+  subst Bounded (sym (c .before .state-in .ensures)) (state-bounded (c .before .before .before .before .before .before .before .args .found .sum) (c .before .before .before .before .before .before .before .pre .2)),
+  subst (Counted 8192) (sym (c .counts-in .ensures)) (counts-bounded (c .before .before .before .before .before .before .before .args .found .sum) (c .before .before .before .before .before .before .before .pre .2)),
+  c .before .before .score-multiplier .ensures .1,
+)
 
--- src/read.rt:101:1
 returns : tie.Need-returns
-returns c = ?
+unfolding attributesFrom
+returns c =
+    let sum = c .before .before .before .before .before .before .before .before .args .found .sum in
+    let e = kept (c .before .before .before .before .drain-from .result) (omega arith) ∙ c .before .before .before .before .drain-from .ensures .0 in
+    let m = c .before .before .before .score-multiplier .ensures .0 ∙ ap (multiplierOf (c .before .before .before .before .before .before .before .before .args .settings) (sum .«object_count»)) e in
+    c .score-attributes .ensures ∙ readings.same-attributes (c .before .before .state-in .ensures) (c .before .counts-in .ensures) m
 
 pub attributes-from-spec : {M : Type 1} → statement M
 attributes-from-spec =

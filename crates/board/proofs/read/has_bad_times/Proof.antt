@@ -45,8 +45,7 @@ loop-less c = omega arith
 loop-again : tie.Need-loop-again Inv-loop μ-loop
 loop-again c =
     let l = c .before .before .before .before .before .before .args .times .now in
-    let i = c .before .before .before .before .loop .i in
-    (
+    let i = c .before .before .before .before .loop .i in (
       omega arith,
       sym (times-at l i (omega arith) ∙ ap (λ (t : Bool). t || timesBad (drop (i + 1) l)) (so (c .before .is-bad-time .ensures) (c .if1 .left))) ∙ c .before .before .before .before .loop .inv .1,
     )

@@ -1,56 +1,60 @@
+-- Each return is a step of the definition.
+use mathlib.Core.Path.{_≡_, refl, sym, ap, _∙_, subst}
+use native.Mathlib.Omega.{arith}
+use Rattle.records.proofs.Laws.{so}
+use Rattle.scoring.specs.Scores.{givenAnswer}
+use Rattle.board.proofs.Rooms as rooms
+use Rattle.board.proofs.Readings as readings
 use borrow.Author.Needs.{needs}
 use Rattle.board.proofs.read.read.Statement.{statement}
 use Rattle.board.proofs.read.read.Tie as tie
-use Rattle.board.proofs.read.read.Reads as reads
-use Rattle.board.proofs.read.read.Lts as lts
 use Rattle.board.proofs.place.room_for.Reads as room-for-reads
 use Rattle.board.proofs.read.has_bad_arguments.Reads as has-bad-arguments-reads
 use Rattle.board.proofs.read.read_in.Reads as read-in-reads
 use Rattle.scoring.proofs.play_score.has_bad_mods.Reads as has-bad-mods-reads
 
--- src/read.rt:152:9
 returns : tie.Need-returns
-returns c = ?
+returns c =
+    sym (ap givenAnswer (readings.many-breaks (c .before .before .before .before .args .board .now) (c .before .before .before .before .args .starts .now) (c .before .before .before .before .args .count) (c .before .before .before .before .args .settings) (c .before .before .before .before .args .breaks .now) (c .before .before .before .before .args .play) (c .if1 .taken)))
 
--- src/read.rt:157:11
 room-for-requires : tie.Need-room-for-requires
 room-for-requires c κs = search needs
 
--- src/read.rt:158:23
 enum-known-number : tie.Need-enum-known-number
 enum-known-number c = search needs
 
--- src/read.rt:159:18
 enum-known-size : tie.Need-enum-known-size
 enum-known-size c = search needs
 
--- src/read.rt:160:16
 has-bad-arguments-requires : tie.Need-has-bad-arguments-requires
 has-bad-arguments-requires c κs = search needs
 
--- src/read.rt:161:17
 returns-2 : tie.Need-returns-2
-returns-2 c = ?
+returns-2 c =
+    let room = rooms.told-is (c .before .before .before .before .before .before .before .before .before .before .args .board .now) (c .before .before .before .before .before .before .before .before .before .before .args .starts .now) (c .before .before .before .before .before .before .before .before .before .before .args .count) _ (so (c .before .before .before .size .given .1) (c .before .before .before .before .before .room-for .ensures)) in
+    sym (ap givenAnswer (readings.bad-arguments (c .before .before .before .before .before .before .before .before .before .before .args .board .now) (c .before .before .before .before .before .before .before .before .before .before .args .starts .now) (c .before .before .before .before .before .before .before .before .before .before .args .count) (c .before .before .before .before .before .before .before .before .before .before .args .settings) (c .before .before .before .before .before .before .before .before .before .before .args .breaks .now) (c .before .before .before .before .before .before .before .before .before .before .args .play) (c .before .before .before .before .before .before .if1 .left) (room .0) (so (c .before .has-bad-arguments .ensures) (c .if2 .taken))))
 
--- src/read.rt:167:16
 has-bad-mods-requires : tie.Need-has-bad-mods-requires
 has-bad-mods-requires c κs = search needs
 
--- src/read.rt:168:17
 returns-3 : tie.Need-returns-3
-returns-3 c = ?
+returns-3 c =
+    let room = rooms.told-is (c .before .before .before .before .before .before .before .before .before .before .before .before .before .args .board .now) (c .before .before .before .before .before .before .before .before .before .before .before .before .before .args .starts .now) (c .before .before .before .before .before .before .before .before .before .before .before .before .before .args .count) _ (so (c .before .before .before .before .before .before .size .given .1) (c .before .before .before .before .before .before .before .before .room-for .ensures)) in
+    sym (ap givenAnswer (readings.bad-mods (c .before .before .before .before .before .before .before .before .before .before .before .before .before .args .board .now) (c .before .before .before .before .before .before .before .before .before .before .before .before .before .args .starts .now) (c .before .before .before .before .before .before .before .before .before .before .before .before .before .args .count) (c .before .before .before .before .before .before .before .before .before .before .before .before .before .args .settings) (c .before .before .before .before .before .before .before .before .before .before .before .before .before .args .breaks .now) (c .before .before .before .before .before .before .before .before .before .before .before .before .before .args .play) (c .before .before .before .before .before .before .before .before .before .if1 .left) (room .0) (so (c .before .before .before .before .has-bad-arguments .ensures) (c .before .before .before .if2 .left)) (so (c .before .has-bad-mods .ensures) (c .if3 .taken))))
 
--- src/read.rt:173:13
 read-in-requires : tie.Need-read-in-requires
-read-in-requires c κs = ?
+read-in-requires c κs =
+    let room = rooms.told-is (c .before .before .before .before .before .before .before .before .before .before .before .before .before .args .board .now) (c .before .before .before .before .before .before .before .before .before .before .before .before .before .args .starts .now) (c .before .before .before .before .before .before .before .before .before .before .before .before .before .args .count) _ (so (c .before .before .before .before .before .before .size .given .1) (c .before .before .before .before .before .before .before .before .room-for .ensures)) in
+    (room .1, c .before .before .before .before .before .before .before .before .before .if1 .left, readings.settings-pass (c .before .before .before .before .before .before .before .before .before .before .before .before .before .args .settings) (c .before .before .before .before .before .before .before .before .before .before .before .before .before .args .breaks .now) (so (c .before .before .before .before .has-bad-arguments .ensures) (c .before .before .before .if2 .left)))
 
--- src/read.rt:141:1
 returns-4 : tie.Need-returns-4
-returns-4 c = ?
+returns-4 c =
+    sym (ap givenAnswer (readings.no-room (c .before .before .before .before .before .before .before .before .args .board .now) (c .before .before .before .before .before .before .before .before .args .starts .now) (c .before .before .before .before .before .before .before .before .args .count) (c .before .before .before .before .before .before .before .before .args .settings) (c .before .before .before .before .before .before .before .before .args .breaks .now) (c .before .before .before .before .before .before .before .before .args .play) (c .before .before .before .before .if1 .left) _ (rooms.told-refused (c .before .before .before .before .before .before .before .before .args .board .now) (c .before .before .before .before .before .before .before .before .args .starts .now) (c .before .before .before .before .before .before .before .before .args .count) _ (so (c .before .number .given .1) (c .before .before .before .room-for .ensures)))))
 
--- src/read.rt:141:1
 returns-5 : tie.Need-returns-5
-returns-5 c = ?
+returns-5 c =
+    let room = rooms.told-is (c .before .before .before .before .before .before .before .before .before .before .before .before .before .before .args .board .now) (c .before .before .before .before .before .before .before .before .before .before .before .before .before .before .args .starts .now) (c .before .before .before .before .before .before .before .before .before .before .before .before .before .before .args .count) _ (so (c .before .before .before .before .before .before .before .size .given .1) (c .before .before .before .before .before .before .before .before .before .room-for .ensures)) in
+    c .read-in .ensures ∙ sym (ap givenAnswer (readings.reads (c .before .before .before .before .before .before .before .before .before .before .before .before .before .before .args .board .now) (c .before .before .before .before .before .before .before .before .before .before .before .before .before .before .args .starts .now) (c .before .before .before .before .before .before .before .before .before .before .before .before .before .before .args .count) (c .before .before .before .before .before .before .before .before .before .before .before .before .before .before .args .settings) (c .before .before .before .before .before .before .before .before .before .before .before .before .before .before .args .breaks .now) (c .before .before .before .before .before .before .before .before .before .before .before .before .before .before .args .play) (c .before .before .before .before .before .before .before .before .before .before .if1 .left) (room .0) (so (c .before .before .before .before .before .has-bad-arguments .ensures) (c .before .before .before .before .if2 .left)) (so (c .before .before .has-bad-mods .ensures) (c .before .if3 .left))))
 
 pub read-spec : {M : Type 1} → statement M
 read-spec =

@@ -1,55 +1,80 @@
+-- Each return is a step of the definition.
+use mathlib.Core.Path.{_≡_, refl, sym, ap, _∙_, subst}
+use native.Mathlib.Omega.{arith}
+use Prim.Native.Nat.{ℕ, _+_, _*_, _≤_, _^_}
+use lib.Pow.{pow-mono}
+use Rattle.records.proofs.Laws.{so}
+use Rattle.records.specs.Refusals.{good, refused}
+use Rattle.entries.specs.Entry.{none}
+use Rattle.tree.specs.Size.{levelsOf, capOf}
+use Rattle.tree.specs.First.{walked}
+use Rattle.tree.proofs.Climbs as climbs
+use Rattle.tree.proofs.Levels.{levels-hold, levels-most}
+use Rattle.board.specs.Search.{searchOf}
+use Rattle.board.proofs.Searches as searches
 use borrow.Author.Needs.{needs}
 use Rattle.board.proofs.search.find.Statement.{statement}
 use Rattle.board.proofs.search.find.Tie as tie
-use Rattle.board.proofs.search.find.Reads as reads
-use Rattle.board.proofs.search.find.Lts as lts
 use Rattle.board.proofs.search.find_starts.Reads as find-starts-reads
 use Rattle.entries.proofs.values.is_unsound.Reads as is-unsound-reads
 use Rattle.tree.proofs.sum_of_first.Reads as sum-of-first-reads
 
--- src/search.rt:80:11
 sum-of-first-requires : tie.Need-sum-of-first-requires
-sum-of-first-requires c κs = ?
+sum-of-first-requires c κs =
+    let holds = c .before .before .pre .0 in
+    let places = levels-hold (c .before .before .args .count) (holds .few) in
+    let most = levels-most (c .before .before .args .count) in
+    let cap = holds .cap in
+    let levels = holds .levels in
+    let words = holds .words in
+    let high : capOf (c .before .before .args .count) ≤ 8192 = pow-mono {i = levelsOf (c .before .before .args .count)} {j = 13} most in
+    (cap ∙ ap (λ (l : ℕ). 2 ^ l) (sym levels), omega (arith, levels, most), omega (arith, cap, high), omega (arith, cap, places, c .before .before .pre .1), omega (arith, cap, words))
 
--- src/search.rt:81:27
 enum-known-number : tie.Need-enum-known-number
 enum-known-number c = search needs
 
--- src/search.rt:82:22
 enum-known-sum : tie.Need-enum-known-sum
 enum-known-sum c = search needs
 
--- src/search.rt:83:43
 find-starts-requires : tie.Need-find-starts-requires
 find-starts-requires c κs = search needs
 
--- src/search.rt:83:34
 enum-known-found : tie.Need-enum-known-found
 enum-known-found c = search needs
 
--- src/search.rt:84:17
 enum-told : tie.Need-enum-told
 enum-told c = search needs
 
--- src/search.rt:84:17
 returns : tie.Need-returns
-returns c = ?
+returns c =
+    let levels = ap (λ (l : ℕ). walked (l + 1) (c .before .before .before .before .before .before .before .before .before .args .board .now) 1 (c .before .before .before .before .before .before .before .before .before .args .p) none) (c .before .before .before .before .before .before .before .before .before .pre .0 .levels) in
+    let sum = sym levels ∙ climbs.told-good _ _ (so (c .before .before .before .before .sum .given .1) (c .before .before .before .before .before .before .sum-of-first .ensures)) in
+    sym (ap searchOf (searches.starts-stop (c .before .before .before .before .before .before .before .before .before .args .board .now) (c .before .before .before .before .before .before .before .before .before .args .starts .now) (c .before .before .before .before .before .before .before .before .before .args .count) (c .before .before .before .before .before .before .before .before .before .args .p) _ sum (searches.bad-starts (c .before .before .before .before .before .before .before .before .before .args .starts .now) (c .before .before .before .before .before .before .before .before .before .args .count) (c .before .before .before .before .before .before .before .before .before .args .p) (so (c .enum-told .given .1) (c .before .before .find-starts .ensures)))))
 
--- src/search.rt:86:16
 is-unsound-requires : tie.Need-is-unsound-requires
-is-unsound-requires c κs = ?
+is-unsound-requires c κs =
+    let levels = ap (λ (l : ℕ). walked (l + 1) (c .before .before .before .before .before .before .before .before .before .before .args .board .now) 1 (c .before .before .before .before .before .before .before .before .before .before .args .p) none) (c .before .before .before .before .before .before .before .before .before .before .pre .0 .levels) in
+    let sum = sym levels ∙ climbs.told-good _ _ (so (c .before .before .before .before .before .sum .given .1) (c .before .before .before .before .before .before .before .sum-of-first .ensures)) in
+    searches.sum-in (levelsOf (c .before .before .before .before .before .before .before .before .before .before .args .count) + 1) (c .before .before .before .before .before .before .before .before .before .before .args .board .now) (c .before .before .before .before .before .before .before .before .before .before .args .p) _ sum
 
--- src/search.rt:87:17
 returns-2 : tie.Need-returns-2
-returns-2 c = ?
+returns-2 c =
+    let levels = ap (λ (l : ℕ). walked (l + 1) (c .before .before .before .before .before .before .before .before .before .before .before .before .args .board .now) 1 (c .before .before .before .before .before .before .before .before .before .before .before .before .args .p) none) (c .before .before .before .before .before .before .before .before .before .before .before .before .pre .0 .levels) in
+    let sum = sym levels ∙ climbs.told-good _ _ (so (c .before .before .before .before .before .before .before .sum .given .1) (c .before .before .before .before .before .before .before .before .before .sum-of-first .ensures)) in
+    let starts = searches.good-starts (c .before .before .before .before .before .before .before .before .before .before .before .before .args .starts .now) (c .before .before .before .before .before .before .before .before .before .before .before .before .args .count) (c .before .before .before .before .before .before .before .before .before .before .before .before .args .p) _ (so (c .before .before .before .found .given .1) (c .before .before .before .before .before .find-starts .ensures)) in
+    sym (ap searchOf (searches.unsound-stop (c .before .before .before .before .before .before .before .before .before .before .before .before .args .board .now) (c .before .before .before .before .before .before .before .before .before .before .before .before .args .starts .now) (c .before .before .before .before .before .before .before .before .before .before .before .before .args .count) (c .before .before .before .before .before .before .before .before .before .before .before .before .args .p) _ sum _ starts (so (c .before .is-unsound .ensures) (c .if1 .taken))))
 
--- src/search.rt:76:1
 returns-3 : tie.Need-returns-3
-returns-3 c = ?
+returns-3 c =
+    let levels = ap (λ (l : ℕ). walked (l + 1) (c .before .before .before .before .before .before .args .board .now) 1 (c .before .before .before .before .before .before .args .p) none) (c .before .before .before .before .before .before .pre .0 .levels) in
+    sym (ap searchOf (searches.stops (c .before .before .before .before .before .before .args .board .now) (c .before .before .before .before .before .before .args .starts .now) (c .before .before .before .before .before .before .args .count) (c .before .before .before .before .before .before .args .p) _ (sym levels ∙ climbs.told-refused _ _ (so (c .before .number .given .1) (c .before .before .before .sum-of-first .ensures)))))
 
--- src/search.rt:76:1
 returns-4 : tie.Need-returns-4
-returns-4 c = ?
+returns-4 c =
+    let levels = ap (λ (l : ℕ). walked (l + 1) (c .before .before .before .before .before .before .before .before .before .before .before .before .args .board .now) 1 (c .before .before .before .before .before .before .before .before .before .before .before .before .args .p) none) (c .before .before .before .before .before .before .before .before .before .before .before .before .pre .0 .levels) in
+    let sum = sym levels ∙ climbs.told-good _ _ (so (c .before .before .before .before .before .before .before .sum .given .1) (c .before .before .before .before .before .before .before .before .before .sum-of-first .ensures)) in
+    let starts = searches.good-starts (c .before .before .before .before .before .before .before .before .before .before .before .before .args .starts .now) (c .before .before .before .before .before .before .before .before .before .before .before .before .args .count) (c .before .before .before .before .before .before .before .before .before .before .before .before .args .p) _ (so (c .before .before .before .found .given .1) (c .before .before .before .before .before .find-starts .ensures)) in
+    sym (ap searchOf (searches.finds (c .before .before .before .before .before .before .before .before .before .before .before .before .args .board .now) (c .before .before .before .before .before .before .before .before .before .before .before .before .args .starts .now) (c .before .before .before .before .before .before .before .before .before .before .before .before .args .count) (c .before .before .before .before .before .before .before .before .before .before .before .before .args .p) _ sum _ starts (so (c .before .is-unsound .ensures) (c .if1 .left))))
 
 pub find-spec : {M : Type 1} → statement M
 find-spec =

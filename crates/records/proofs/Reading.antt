@@ -4,7 +4,7 @@ use mathlib.Core.Bool.{Bool, true, false}
 use mathlib.Core.List.{List, [], _∷_, _++_}
 use Prim.Native.Nat.{ℕ, zero, suc, _+_, _-_, _≤_, _<_}
 use native.Mathlib.Numerals.{add-one}
-use native.Mathlib.Nat.{add-zero}
+use native.Mathlib.Nat.{add-zero, le-trans}
 use native.Mathlib.Omega.{arith}
 use lib.Dec.{ltb, eqb}
 use lib.ListN.{length, take, drop, length-append, length-drop, take-append-drop}
@@ -117,6 +117,37 @@ on-end s f on h = go (on .fuel) refl
     go : (fuel : ℕ) → on .fuel ≡ fuel → fileOf s ≡ ended f
     go zero p = never (omega (arith, on .enough, p))
     go (suc fuel) p = sym (on .rest) ∙ ap (λ (j : ℕ). fileFrom j s f) p ∙ from-end fuel s f h
+
+-- the file that is accepted at the end of the input is the one read
+pub ended-is : (f g : File) → ended f ≡ accepted g → f ≡ g
+ended-is f g e = go (eqb (f .last) 0) e
+  where
+    go : (b : Bool) → pick b (refusedAt 3 0 f) (accepted f) ≡ accepted g → f ≡ g
+    go true e = never (cc)
+    go false e = cc
+
+-- ---- an accepted file has no fewer objects than were read so far
+more-objects : (f : File) (r : Content × ℕ) → length (f .map .objects) ≤ length (with-record f r .map .objects)
+unfolding with-record
+more-objects f (header s, n) = omega arith
+more-objects f (break b, n) = omega arith
+more-objects f (object o, n) = let more = length-snoc (f .map .objects) o in omega (arith, more)
+more-objects f (play p, n) = omega arith
+
+from-fewer : (fuel : ℕ) (s : List ℕ) (f g : File) → fileFrom fuel s f ≡ accepted g → length (f .map .objects) ≤ length (g .map .objects)
+unfolding fileFrom
+from-fewer zero s f g e = never (cc)
+from-fewer (suc fuel) s f g e = go (λ r q. from-fewer fuel s (with-record f r) g q) (ltb (f .at) (length s)) (foundAt s f) e
+  where
+    go : ((r : Content × ℕ) → fileFrom fuel s (with-record f r) ≡ accepted g → length (with-record f r .map .objects) ≤ length (g .map .objects))
+        → (b : Bool) (x : Found) → pick b (follow f x (λ r. fileFrom fuel s (with-record f r))) (ended f) ≡ accepted g
+        → length (f .map .objects) ≤ length (g .map .objects)
+    go on false x e = let same = ap (λ (h : File). length (h .map .objects)) (ended-is f g e) in omega (arith, same)
+    go on true (refused n) e = never (cc)
+    go on true (good r) e = le-trans (more-objects f r) (on r e)
+
+pub on-fewer : (s : List ℕ) (f g : File) → On s f → fileOf s ≡ accepted g → length (f .map .objects) ≤ length (g .map .objects)
+on-fewer s f g on e = from-fewer (on .fuel) s f g (on .rest ∙ e)
 
 -- ---- the files that are read one after the other, record by record
 pub data Chain (s : List ℕ) : File → Type 0 where

@@ -1,12 +1,13 @@
 -- From what a call answered to what the definition says: one case of an answer stands for one case of the definition.
 use mathlib.Core.Path.{_≡_, refl, sym, ap, _∙_, subst}
 use mathlib.Core.List.{List, [], _∷_}
-use Prim.Native.Nat.{ℕ, zero, suc, _≤_, min}
+use Prim.Native.Nat.{ℕ, zero, suc, min}
 use native.Mathlib.Omega.{arith}
 use lib.ListN.{length}
 use Rattle.records.specs.Refusals.{Checked, good, refused}
 use Rattle.records.specs.File.{Map, File, Result, accepted, refusedAt, fileOf}
 use Rattle.records.specs.declared.play.Play.{Play}
+use Rattle.encoding.specs.Limits.{MapWithin}
 use Rattle.encoding.proofs.Accepted.{accepted-within}
 use Rattle.simulator.specs.Attributes.{scoreAttributesAt}
 use Rattle.simulator.specs.Sums.{simulatedOf}
@@ -61,11 +62,9 @@ no-number s sc e = go (fileOf s) refl e
         plays (refusal k o) e = never (cc)
         plays (values ss) e = never (cc)
 
-few-objects : (s : List ℕ) (sc : Scores) → scoresOf (fileOf s) ≡ values sc → length (sc .map .objects) ≤ 8192
-few-objects s sc e =
-    let k = no-number s sc e in
-    let few = accepted-within s (k .file) (k .read) .few-objects in
-    subst (λ (m : Map). length (m .objects) ≤ 8192) (sym (k .map)) few
+-- its map is within the limits
+pub values-within : (s : List ℕ) (sc : Scores) → scoresOf (fileOf s) ≡ values sc → MapWithin (sc .map)
+values-within s sc e = let k = no-number s sc e in subst MapWithin (sym (k .map)) (accepted-within s (k .file) (k .read))
 
 -- ---- the wanted play
 wanted-is : (ss : List PlayScore) (j : ℕ) (x : PlayScore) → wanted.Is x ≡ wantedOf j ss → listed.Score x ≡ playAt j ss
@@ -83,7 +82,7 @@ wanted-not (s ∷ ss) (suc j) n e = wanted-not ss j n e
 -- ---- the answers of the calls
 -- a refusal goes through
 module _ (p i : ℕ) (x : Outcome Scores) (n at : ℕ) (e : answer.Refused n at ≡ playsOf p i x) where
-  refusal-is : refusal n at ≡ x
+  pub refusal-is : refusal n at ≡ x
   refusal-is = go x e
     where
       go : (x : Outcome Scores) → answer.Refused n at ≡ playsOf p i x → refusal n at ≡ x
@@ -100,13 +99,13 @@ module _ (p i : ℕ) (x : Outcome Scores) (n at : ℕ) (e : answer.Refused n at 
   listed-refused = ap (listedPlayOf i) refusal-is
 
 -- the values of a file without a refusal
-record Good (p i : ℕ) (x : Outcome Scores) (a : ScoreAttributes) (w : Wanted) : Type 0 where
-  scores : Scores
-  is : x ≡ values scores
-  attributes : a ≡ scoreAttributesAt (scores .map) p
-  wanted : w ≡ wantedOf i (scores .plays)
+pub record Good (p i : ℕ) (x : Outcome Scores) (a : ScoreAttributes) (w : Wanted) : Type 0 where
+  pub scores : Scores
+  pub is : x ≡ values scores
+  pub attributes : a ≡ scoreAttributesAt (scores .map) p
+  pub wanted : w ≡ wantedOf i (scores .plays)
 
-good-is : (p i : ℕ) (x : Outcome Scores) (a : ScoreAttributes) (w : Wanted) → answer.Good a w ≡ playsOf p i x → Good p i x a w
+pub good-is : (p i : ℕ) (x : Outcome Scores) (a : ScoreAttributes) (w : Wanted) → answer.Good a w ≡ playsOf p i x → Good p i x a w
 good-is p i (refusal n at) a w e = never (cc)
 good-is p i (values s) a w e = record { scores = s; is = refl; attributes = cc; wanted = cc }
 
@@ -116,7 +115,7 @@ pub map-scored : (s : List ℕ) (i : ℕ) (a : ScoreAttributes) (w : Wanted) →
 map-scored s i a w e =
     let k = good-is 18446744073709551615 i (scoresOf (fileOf s)) a w e in
     let m = k .scores .map in
-    let few = few-objects s (k .scores) (k .is) in
+    let few = values-within s (k .scores) (k .is) .few-objects in
     let all : min 18446744073709551615 (length (m .objects)) ≡ min (length (m .objects)) (length (m .objects)) = omega (arith, few) in
     ap map·score.Map (k .attributes ∙ attributes-passed m 18446744073709551615 (length (m .objects)) all) ∙ sym (ap mapScoreOf (k .is))
 

@@ -1,72 +1,90 @@
+-- `build` is right since nothing is written before the last check, and then the objects' own entries, their starts and what lies above.
 use borrow.Author.Needs.{needs}
+use Rattle.records.proofs.Laws.{so}
+use Rattle.board.proofs.BuiltRight.{file-refused, no-room, build-lays, build-fills, build-done}
 use Rattle.board.proofs.build.build.Statement.{statement}
 use Rattle.board.proofs.build.build.Tie as tie
-use Rattle.board.proofs.build.build.Reads as reads
-use Rattle.board.proofs.build.build.Lts as lts
-use Rattle.board.proofs.build.lay.Reads as lay-reads
-use Rattle.board.proofs.place.room_for.Reads as room-for-reads
-use Rattle.scoring.proofs.plays.check_plays.Reads as check-plays-reads
-use Rattle.tree.proofs.build.fill.Reads as fill-reads
 
--- src/build.rt:63:11
 check-plays-requires : tie.Need-check-plays-requires
 check-plays-requires c κs = search needs
 
--- src/build.rt:64:26
 enum-known-number : tie.Need-enum-known-number
 enum-known-number c = search needs
 
--- src/build.rt:65:21
 enum-known-a : tie.Need-enum-known-a
 enum-known-a c = search needs
 
--- src/build.rt:67:19
 room-for-requires : tie.Need-room-for-requires
 room-for-requires c κs = search needs
 
--- src/build.rt:68:31
 enum-known-number-2 : tie.Need-enum-known-number-2
 enum-known-number-2 c = search needs
 
--- src/build.rt:69:26
 enum-known-size : tie.Need-enum-known-size
 enum-known-size c = search needs
 
--- src/build.rt:70:21
 lay-requires : tie.Need-lay-requires
-lay-requires c κs = ?
+lay-requires c κs =
+    let sized = c .before .before .before in
+    let asked = sized .before .before in
+    let good = asked .before .before .before .before in
+    let checked = good .before .before in
+    let args = checked .before .before .before .before .args in
+    build-lays (args .file .now) (args .board .now) (args .starts .now) 0 _ _ (so (good .a .given .1) (checked .check-plays .ensures))
+    _ (so (sized .size .given .1) (asked .room-for .ensures))
 
--- src/build.rt:71:21
 fill-requires : tie.Need-fill-requires
-fill-requires c κs = ?
+fill-requires c κs =
+    let laid = c .before .before .before .before .before in
+    let sized = laid .before .before .before .before in
+    let asked = sized .before .before in
+    let good = asked .before .before .before .before in
+    let checked = good .before .before in
+    let args = checked .before .before .before .before .args in
+    build-fills (args .file .now) (args .board .now) (args .starts .now) 0 _ _ (so (good .a .given .1) (checked .check-plays .ensures))
+    _ (so (sized .size .given .1) (asked .room-for .ensures))
+    _ _ (laid .lay .ensures)
 
--- src/build.rt:60:1
 returns : tie.Need-returns
-returns c = ?
+returns c =
+    let checked = c .before .before .before in
+    let args = checked .before .before .before .before .args in
+    file-refused (args .file .now) (args .board .now) (args .starts .now) 0 _ _ (so (c .before .number .given .1) (checked .check-plays .ensures))
 
--- src/build.rt:60:1
 same-length : tie.Need-same-length
 same-length c = search needs
 
--- src/build.rt:60:1
 same-length-2 : tie.Need-same-length-2
 same-length-2 c = search needs
 
--- src/build.rt:60:1
 returns-2 : tie.Need-returns-2
-returns-2 c = ?
+returns-2 c =
+    let asked = c .before .before .before in
+    let good = asked .before .before .before .before in
+    let checked = good .before .before in
+    let args = checked .before .before .before .before .args in
+    no-room (args .file .now) (args .board .now) (args .starts .now) 0 _ _ (so (good .a .given .1) (checked .check-plays .ensures))
+    _ (so (c .before .number2 .given .1) (asked .room-for .ensures))
 
--- src/build.rt:60:1
 same-length-3 : tie.Need-same-length-3
 same-length-3 c = search needs
 
--- src/build.rt:60:1
 same-length-4 : tie.Need-same-length-4
 same-length-4 c = search needs
 
--- src/build.rt:60:1
 returns-3 : tie.Need-returns-3
-returns-3 c = ?
+returns-3 c =
+    let all = c .before .before in
+    let laid = all .before .before .before .before .before .before in
+    let sized = laid .before .before .before .before in
+    let asked = sized .before .before in
+    let good = asked .before .before .before .before in
+    let checked = good .before .before in
+    let args = checked .before .before .before .before .args in
+    build-done (args .file .now) (args .board .now) (args .starts .now) 0 _ _ (so (good .a .given .1) (checked .check-plays .ensures))
+    _ (so (sized .size .given .1) (asked .room-for .ensures))
+    _ _ (laid .lay .ensures)
+    _ (all .fill .ensures)
 
 pub build-spec : {M : Type 1} → statement M
 build-spec =

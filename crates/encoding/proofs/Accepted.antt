@@ -13,12 +13,14 @@ use Rattle.numbers.specs.Words.{wordAt}
 use Rattle.records.specs.Refusals.{Checked, good, refused, _>>=_, pick}
 use Rattle.records.specs.Fields.{timed, set, doubleWithin, settingOf}
 use Rattle.records.specs.Objects.{Item, circle, slider, spinner, Object, bonus, kindBonus}
-use Rattle.records.specs.Records.{Content, header, break, object, play, Found, CI, SL, SP, headerOf, breakOf, circleOf, itemOf, nestedOf, sliderOf, spinnerOf, playOf, objectOf, contentView}
+use Rattle.records.specs.Records.{Content, header, break, object, play, Found, CI, SL, SP, headerOf, breakOf, circleOf, nestedOf, sliderOf, spinnerOf, playOf, objectOf, contentView}
 use Rattle.records.specs.Order.{MH, BR, PL, bodyOf, recordOf, contentBonus}
 use Rattle.records.specs.File.{Map, File, Result, accepted, refusedAt, countsOf, with-record, follow, ended, fileFrom, fresh, fileOf}
 use Rattle.records.specs.View.{Fits}
 use Rattle.encoding.specs.Limits.{Within, IsTime, IsSetting, IsDuration, Each, none, one, SettingsWithin, BreakWithin, ObjectWithin, MapWithin}
 use Rattle.records.specs.declared.file.Counts.{Counts}
+use Rattle.encoding.proofs.RecordsBack.{nested-length}
+use Rattle.encoding.proofs.Written.{timed-all, nested-are}
 use Rattle.records.proofs.All as checked
 use Rattle.records.proofs.All.{All, that, all-bind, all-any, all-when, all-pick, all-map}
 use Rattle.records.proofs.Bodies.{bonus-kept}
@@ -27,12 +29,7 @@ use Rattle.records.proofs.Reading.{foundAt, length-snoc, bonus-snoc}
 
 -- ---- the floats of a record
 within-all : (low high : Float) (b : ℕ) → All (Within binary64 low high) (timed (doubleWithin low high (ofBits binary64 b)))
-within-all low high b = go (le low (ofBits binary64 b)) refl (le (ofBits binary64 b) high) refl
-  where
-    go : (p : Bool) → le low (ofBits binary64 b) ≡ p → (q : Bool) → le (ofBits binary64 b) high ≡ q → All (Within binary64 low high) (timed (doubleWithin low high (ofBits binary64 b)))
-    go true e true f = rw (e, f) (that (record { held = ofBits-fits binary64 b; above = e; below = f }))
-    go true e false f = rw (e, f) checked.none
-    go false e q f = rw e checked.none
+within-all low high b = timed-all low high (ofBits binary64 b) (λ e f. record { held = ofBits-fits binary64 b; above = e; below = f })
 
 setting-all : (b : ℕ) → All IsSetting (set (settingOf b))
 setting-all b = go (le (ofBits binary32 0) (ofBits binary32 b)) refl (le (ofBits binary32 b) (ofBits binary32 0x41400000)) refl
@@ -41,13 +38,6 @@ setting-all b = go (le (ofBits binary32 0) (ofBits binary32 b)) refl (le (ofBits
     go true e true f = rw (e, f) (that (record { held = ofBits-fits binary32 b; above = e; below = f }))
     go true e false f = rw (e, f) checked.none
     go false e q f = rw e checked.none
-
--- a nested list has its tail and the items before it
-nested-count : (l : List ℕ) → All (λ is. length is + 1 ≡ length l) (nestedOf l)
-unfolding nestedOf
-nested-count [] = checked.none
-nested-count (b ∷ []) = all-pick (eqb b 2) (λ _. that refl) (λ _. checked.none)
-nested-count (b ∷ c ∷ l) = all-any (itemOf b) _ (λ i. all-bind (nestedOf (c ∷ l)) _ (nested-count (c ∷ l)) (λ is e. that (let h : length is + 1 ≡ suc (length l) = e in omega (arith, h))))
 
 -- ---- the contents of a record
 abbrev ContentWithin : Content → Type 0
@@ -82,7 +72,11 @@ slider-within r =
     let n = wordAt r 10 2 in
     let l = drop 12 r in
     all-when 2 _ _ (λ _. all-bind _ _ (within-all _ _ (wordAt r 2 8)) (λ x a. all-when 6 _ _ (λ few. all-when 2 _ _ (λ _.
-    all-bind (nestedOf (take n l)) _ (nested-count (take n l)) (λ is e. that (record { start = a; kind = (let k : n ≤ 1000 = ltb-false 1000 n few in let h = length-take n l in omega (arith, e, h, k)) }))))))
+    all-bind (nestedOf (take n l)) _ (nested-are (take n l)) (λ is q.
+    let low : n ≤ 1000 = ltb-false 1000 n few in
+    let count = ap length q ∙ nested-length is in
+    let h = length-take n l in
+    that (record { start = a; kind = omega (arith, count, h, low) }))))))
 
 play-within : (r : List ℕ) → All FoundWithin (playOf r)
 unfolding playOf

@@ -1,4 +1,5 @@
 pub mod FieldBytes
 pub mod RecordsBack
 pub mod RoundTrip
+pub mod Written
 pub mod Accepted

@@ -1,6 +1,6 @@
 -- Each record that was written is read back as it was, whatever follows it.
 use mathlib.Core.Path.{_≡_, refl, sym, ap, _∙_, subst}
-use mathlib.Core.Bool.{Bool, true, false, _&&_}
+use mathlib.Core.Bool.{Bool, true, false, not, _&&_, _||_}
 use mathlib.Core.List.{List, [], _∷_, _++_, append-assoc}
 use Prim.Native.Nat.{ℕ, zero, suc, _+_, _-_, _*_, _≤_, _<_, _^_}
 use native.Mathlib.Omega.{arith}
@@ -12,10 +12,10 @@ use lib.Ieee.{Float, Format, binary32, binary64, top, fits, ofBits, toBits, lt, 
 use Rattle.numbers.specs.Words.{wordAt, bytesOf}
 use Rattle.numbers.proofs.bits.Laws.{written-read, written-lt}
 use Rattle.records.specs.Refusals.{Checked, good, refused, _>>=_, _>>_, refuse_when_, pick}
-use Rattle.records.specs.Fields.{timeLimit, timeOf, durationOf, settingOf, rateOf, doubleWithin}
+use Rattle.records.specs.Fields.{timeLimit, timeOf, durationOf, settingOf, doubleWithin, played}
 use Rattle.records.specs.Objects.{Item, tick, repeat, circle, slider, spinner, Object}
 use Rattle.records.specs.Records.{header, break, object, play, Found, CI, SL, SP, headerOf, breakOf, circleOf, itemOf, nestedOf, sliderOf, spinnerOf, objectOf, playOf}
-use Rattle.encoding.specs.Limits.{Within, IsTime, IsSetting, IsDuration, SettingsWithin, BreakWithin, KindWithin, ObjectWithin, ScoreWithin, ModsWithin, PlayWithin}
+use Rattle.encoding.specs.Limits.{Within, IsTime, IsSetting, IsDuration, SettingsWithin, BreakWithin, KindWithin, ObjectWithin, ScoreWithin, PlaySized, PlayWithin}
 use Rattle.records.specs.Play.{originOf, scoreOf, flagsBad, hitresultsOf}
 use Rattle.encoding.specs.Encoding.{fieldsOf, headerFields, breakFields, circleFields, sliderFields, spinnerFields, playFields, originByte, presentByte, scoreNumber, itemByte, nestedBytes, headerBytes, breakBytes, objectBytes, playBytes}
 use Rattle.records.specs.declared.beatmap.Settings.{Settings}
@@ -26,7 +26,6 @@ use Rattle.records.specs.declared.play.LegacyTotalScore.{LegacyTotalScore}
 use Rattle.records.specs.declared.play.LegacyTotalScore.the-variants.{Absent, Present}
 use Rattle.records.specs.declared.play.Origin.the-variants as origin
 use Rattle.records.specs.declared.play.Score.the-variants as score
-use Rattle.records.specs.declared.play.GameMods.{GameMods}
 use Rattle.records.specs.declared.play.Play.{Play}
 use Rattle.records.specs.declared.fields.Double.the-variants as double
 use Rattle.records.specs.declared.fields.Single.the-variants as single
@@ -141,16 +140,61 @@ score-fits : (s : LegacyTotalScore) → ScoreWithin s → scoreNumber s < 256 ^ 
 score-fits Absent w = lit< tt
 score-fits (Present n) w = w
 
-rate-back : (m : GameMods) → ModsWithin m → rateOf (toBits binary64 (m .«clock_rate»)) ≡ double.Is (m .«clock_rate»)
-rate-back m w = rw (written-read binary64 _ (w .held)) (simp (w .above, w .below))
-
-play-fit : (p : Play) → PlayWithin p → Fit (playFields p)
+play-fit : (p : Play) → PlaySized p → Fit (playFields p)
 play-fit p w =
     (lit< tt, (w .passed, (w .combo, (w .hits .n300, (w .hits .n100, (w .hits .n50, (w .hits .misses, (w .hits .large, (w .hits .small, (w .hits .ends, (origin-fits (p .origin), (present-fits (p .«legacy_total_score»), (score-fits (p .«legacy_total_score») (w .score), (w .mods .flags, (fits-double _ (w .mods .held), tt)))))))))))))))
 
-pub play-back : (p : Play) (rest : List ℕ) → PlayWithin p → playOf (playBytes p ++ rest) ≡ good (play p, 44)
+-- the checks of flags and clock rate as one test
+mods-checked : {A : Type 0} (bad within : Bool) (x : Float) (k : Float → Checked A)
+    → ((refuse 8 when bad) >> (played (pick within (double.Is x) double.Bad) >>= k)) ≡ ((refuse 8 when (bad || not within)) >> k x)
+unfolding _>>=_ _>>_ refuse_when_
+mods-checked true within x k = refl
+mods-checked false true x k = refl
+mods-checked false false x k = refl
+
+-- the play at another clock rate
+abbrev at-rate : Play → Float → Play
+at-rate p x = record {
+  «passed_objects» = p .«passed_objects»;
+  «max_combo» = p .«max_combo»;
+  hitresults = p .hitresults;
+  origin = p .origin;
+  «legacy_total_score» = p .«legacy_total_score»;
+  mods = record { flags = p .mods .flags; «clock_rate» = x };
+}
+
+-- A play whose fields have the widths of its record gets 8 for its flags and its clock rate alone, and is read back else.
+pub play-read : (p : Play) (rest : List ℕ) → PlaySized p → let x = p .mods .«clock_rate» in
+    playOf (playBytes p ++ rest)
+    ≡ ((refuse 8 when (flagsBad (p .mods .flags) || not (lt (ofBits binary64 0) x && le x (ofBits binary64 0x4059000000000000)))) >> good (play p, 44))
 unfolding playOf playBytes hitresultsOf _>>=_ _>>_ refuse_when_
-play-back p rest w =
+play-read p rest w =
     let fs = playFields p in
     let ok : Fit fs = play-fit p w in
-    simp (there fs rest 44 (omega arith), field-back fs rest 28 1 ok tt, origin-back (p .origin), field-back fs rest 29 1 ok tt, field-back fs rest 30 4 ok tt, score-back (p .«legacy_total_score»), field-back fs rest 34 2 ok tt, w .mods .known, field-back fs rest 36 8 ok tt, rate-back (p .mods) (w .mods), field-back fs rest 2 2 ok tt, field-back fs rest 4 4 ok tt, field-back fs rest 8 2 ok tt, field-back fs rest 10 2 ok tt, field-back fs rest 12 2 ok tt, field-back fs rest 14 2 ok tt, field-back fs rest 16 4 ok tt, field-back fs rest 20 4 ok tt, field-back fs rest 24 4 ok tt)
+    let x = p .mods .«clock_rate» in
+    let good-rate = lt (ofBits binary64 0) x && le x (ofBits binary64 0x4059000000000000) in
+    simp (
+      there fs rest 44 (omega arith),
+      field-back fs rest 28 1 ok tt,
+      origin-back (p .origin),
+      field-back fs rest 29 1 ok tt,
+      field-back fs rest 30 4 ok tt,
+      score-back (p .«legacy_total_score»),
+      field-back fs rest 34 2 ok tt,
+      field-back fs rest 36 8 ok tt,
+      written-read binary64 x (w .mods .held),
+      field-back fs rest 2 2 ok tt,
+      field-back fs rest 4 4 ok tt,
+      field-back fs rest 8 2 ok tt,
+      field-back fs rest 10 2 ok tt,
+      field-back fs rest 12 2 ok tt,
+      field-back fs rest 14 2 ok tt,
+      field-back fs rest 16 4 ok tt,
+      field-back fs rest 20 4 ok tt,
+      field-back fs rest 24 4 ok tt,
+    )
+    (mods-checked (flagsBad (p .mods .flags)) good-rate x (λ y. good (play (at-rate p y), 44)))
+
+pub play-back : (p : Play) (rest : List ℕ) → PlayWithin p → playOf (playBytes p ++ rest) ≡ good (play p, 44)
+unfolding _>>_ refuse_when_
+play-back p rest w = play-read p rest (w .sized) ∙ simp (w .mods .known, w .mods .above, w .mods .below)

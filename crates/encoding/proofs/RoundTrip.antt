@@ -1,6 +1,6 @@
 -- The file of every map within the limits, with plays within theirs behind it, is read back as that map and those plays: each record is found
 -- in its turn, and what was read grows by it.
-use mathlib.Core.Path.{_≡_, refl, sym, ap, _∙_, subst}
+use mathlib.Core.Path.{_≡_, refl, sym, ap, ap₂, _∙_, subst}
 use mathlib.Core.Bool.{Bool, true, false, _&&_}
 use mathlib.Core.List.{List, [], _∷_, _++_, append-assoc, append-nil}
 use Prim.Native.Nat.{ℕ, zero, suc, _+_, _-_, _≤_, _<_, _^_}
@@ -13,7 +13,7 @@ use lib.Seq.{drop-drop, drop-at}
 use Rattle.numbers.specs.Words.{wordAt}
 use Rattle.records.specs.Refusals.{Checked, good, refused, _>>=_, _>>_, refuse_when_}
 use Rattle.records.specs.Objects.{circle, slider, spinner, Kind, Object, bonus, kindBonus}
-use Rattle.records.specs.Records.{Content, header, break, object, play, Found, CI, SL, SP, objectOf}
+use Rattle.records.specs.Records.{Content, header, break, object, play, Found, CI, SL, SP, objectOf, playOf}
 use Rattle.records.specs.Order.{MH, BR, PL, rankOf, inOrder, isFull, contentBonus, bodyOf, recordOf}
 use Rattle.records.specs.File.{Map, File, accepted, refusedAt, countsOf, with-record, ended, fresh, fileOf}
 use Rattle.encoding.specs.Limits.{Each, none, one, SettingsWithin, BreakWithin, KindWithin, ObjectWithin, MapWithin, PlayWithin}
@@ -166,21 +166,42 @@ record Marked (o : Object) (rest : List ℕ) : Type 0 where
   mark : ℕ
   there : wordAt (objectBytes o ++ rest) 0 2 ≡ mark
   rank : rankOf mark ≡ 3
-  back : bodyOf (objectBytes o ++ rest) mark ≡ good (object o, objectSize o)
+  body : bodyOf (objectBytes o ++ rest) mark ≡ objectOf (objectBytes o ++ rest) mark
+  back : objectOf (objectBytes o ++ rest) mark ≡ good (object o, objectSize o)
 
 marked : (o : Object) (rest : List ℕ) → ObjectWithin o → Marked o rest
 unfolding objectBytes bodyOf objectOf
 marked o rest w = go (o .kind) refl (w .kind)
   where
     go : (k : Kind) → o .kind ≡ k → KindWithin k → Marked o rest
-    go circle e kw = record { mark = CI; there = rw e (mark-back CI _ rest (lit< tt)); rank = refl; back = rw e (circle-back (o .start) rest (w .start)) }
+    go circle e kw = record {
+      mark = CI;
+      there = rw e (mark-back CI _ rest (lit< tt));
+      rank = refl;
+      body = refl;
+      back = rw e (circle-back (o .start) rest (w .start));
+    }
     go (slider is) e kw = record {
       mark = SL;
       there = rw (e, append-assoc) (mark-back SL _ (nestedBytes is ++ rest) (lit< tt));
       rank = refl;
+      body = refl;
       back = rw e (slider-back (o .start) is rest (w .start) kw);
     }
-    go (spinner d) e kw = record { mark = SP; there = rw e (mark-back SP _ rest (lit< tt)); rank = refl; back = rw e (spinner-back (o .start) d rest (w .start) kw) }
+    go (spinner d) e kw = record {
+      mark = SP;
+      there = rw e (mark-back SP _ rest (lit< tt));
+      rank = refl;
+      body = refl;
+      back = rw e (spinner-back (o .start) d rest (w .start) kw);
+    }
+
+-- an object's record by itself, as an edit lends it
+pub object-back : (o : Object) (rest : List ℕ) → ObjectWithin o
+    → objectOf (objectBytes o ++ rest) (wordAt (objectBytes o ++ rest) 0 2) ≡ good (object o, length (objectBytes o))
+object-back o rest w =
+    let k = marked o rest w in
+    ap (objectOf (objectBytes o ++ rest)) (k .there) ∙ k .back ∙ ap (λ (n : ℕ). good (object o, n)) (sym (object-long o .0))
 
 object-found : (f : File) (o : Object) (rest : List ℕ) → Ready f 3 → length (f .map .objects) < 8192 → bonus (f .map .objects) + kindBonus (o .kind) ≤ 2147483647 → ObjectWithin o
     → recordOf (objectBytes o ++ rest) (countsOf f) ≡ good (object o, objectSize o)
@@ -188,7 +209,8 @@ unfolding countsOf
 object-found f o rest r room low w =
     let k = marked o rest w in
     record-good (objectBytes o ++ rest) (countsOf f) (k .mark) (object o) (objectSize o) (two-bytes (objectBytes o) rest (object-two o)) (k .there)
-    (rw (k .rank) (in-order (f .last) 3 (lit< tt) (r .begun) (r .early))) (rw (k .rank) (lt-leb 8192 (length (f .map .objects)) room)) (k .back) low
+    (rw (k .rank) (in-order (f .last) 3 (lit< tt) (r .begun) (r .early))) (rw (k .rank) (lt-leb 8192 (length (f .map .objects)) room))
+    (k .body ∙ k .back) low
 
 record ObjectsNext (f : File) (l : List Object) : Type 0 where
   ready : Ready f 3
@@ -227,12 +249,19 @@ record PlaysNext (f : File) (l : List Play) : Type 0 where
   ready : Ready f 4
   within : Each PlayWithin l
 
-play-found : (f : File) (p : Play) (rest : List ℕ) → Ready f 4 → PlayWithin p → recordOf (playBytes p ++ rest) (countsOf f) ≡ good (play p, 44)
-unfolding playBytes bodyOf countsOf
-play-found f p rest r w =
-    let long : length (playBytes p) ≡ 44 = play-long p .0 in
-    record-good (playBytes p ++ rest) (countsOf f) PL (play p) 44 (two-bytes (playBytes p) rest (omega (arith, long))) (mark-back PL _ rest (lit< tt))
-    (in-order (f .last) 4 (lit< tt) (r .begun) (r .early)) refl (play-back p rest w) (let h = r .low in omega (arith, h))
+play-two : (p : Play) (rest : List ℕ) → 2 ≤ length (playBytes p ++ rest)
+play-two p rest = let long = play-long p .0 in two-bytes (playBytes p) rest (omega (arith, long))
+
+play-mark : (p : Play) (rest : List ℕ) → wordAt (playBytes p ++ rest) 0 2 ≡ PL
+unfolding playBytes
+play-mark p rest = mark-back PL _ rest (lit< tt)
+
+play-found : (f : File) (p : Play) (rest : List ℕ) → Ready f 4 → playOf (playBytes p ++ rest) ≡ good (play p, 44)
+    → recordOf (playBytes p ++ rest) (countsOf f) ≡ good (play p, 44)
+unfolding bodyOf countsOf
+play-found f p rest r e =
+    record-good (playBytes p ++ rest) (countsOf f) PL (play p) 44 (play-two p rest) (play-mark p rest)
+    (in-order (f .last) 4 (lit< tt) (r .begun) (r .early)) refl e (let h = r .low in omega (arith, h))
 
 plays-step : (f : File) (p : Play) (l : List Play) (rest : List ℕ) → PlaysNext f (p ∷ l)
     → (recordOf (playBytes p ++ rest) (countsOf f) ≡ good (play p, 44)) × PlaysNext (with-record f (play p, 44)) l
@@ -240,7 +269,10 @@ unfolding with-record
 plays-step f p l rest n = go (n .within)
   where
     go : Each PlayWithin (p ∷ l) → (recordOf (playBytes p ++ rest) (countsOf f) ≡ good (play p, 44)) × PlaysNext (with-record f (play p, 44)) l
-    go (one w ws) = (play-found f p rest (n .ready) w, record { ready = record { begun = lit< tt; early = omega arith; low = n .ready .low }; within = ws })
+    go (one w ws) = (
+      play-found f p rest (n .ready) (play-back p rest w),
+      record { ready = record { begun = lit< tt; early = omega arith; low = n .ready .low }; within = ws },
+    )
 
 -- ---- what was read after a list
 abbrev with-breaks : File → List BreakPeriod → File
@@ -305,8 +337,12 @@ objects-next m w f e r =
       within = w .objects;
     }
 
+-- plays may follow objects
+ready-on : (f : File) → Ready f 3 → Ready f 4
+ready-on f r = let early = r .early in record { begun = r .begun; early = omega (arith, early); low = r .low }
+
 plays-next : (f : File) (ps : List Play) → Ready f 3 → Each PlayWithin ps → PlaysNext f ps
-plays-next f ps r w = let early = r .early in record { ready = record { begun = r .begun; early = omega (arith, early); low = r .low }; within = w }
+plays-next f ps r w = record { ready = ready-on f r; within = w }
 
 last-run : {s : List ℕ} {f : File} {rest : List ℕ} → Run s f rest → Run s f (rest ++ [])
 last-run {rest = rest} run = record { on = run .on; left = run .left ∙ sym (append-nil rest) }
@@ -375,6 +411,38 @@ round-trip m ps w pw =
       plays-back = read .1 ∙ ap (λ (l : List (ℕ × Play)). bare l ++ ps) (k .no-plays);
     }
 
+-- ---- what stands first behind the map
+-- the map's records end where its file does
+map-end : (m : Map) (rest : List ℕ) (k : MapRun m rest) → 0 < length rest
+    → (k .file .at < length (mapFile m ++ rest)) × (k .file .at ≡ length (mapFile m))
+map-end m rest k some =
+    let here = length-drop (k .file .at) (mapFile m ++ rest) in
+    let left = ap length (k .run .left) in
+    let all = length-append (mapFile m) rest in
+    (omega (arith, here, left, some), omega (arith, here, left, all, some))
+
+pub record RefusedBehind (m : Map) (n : ℕ) (s : List ℕ) : Type 0 where
+  pub file : File
+  pub read : fileOf s ≡ refusedAt n (length (mapFile m)) file
+  pub map-back : file .map ≡ m
+  pub no-plays : file .plays ≡ []
+
+refused-behind : (m : Map) (rest : List ℕ) (n : ℕ) → MapWithin m → 0 < length rest
+    → ((f : File) → Ready f 3 → f .map ≡ m → recordOf rest (countsOf f) ≡ refused n)
+    → RefusedBehind m n (mapFile m ++ rest)
+refused-behind m rest n w some bad =
+    let s = mapFile m ++ rest in
+    let k = run-map m rest w in
+    let f = k .file in
+    let end = map-end m rest k some in
+    let found = ap (λ (l : List ℕ). recordOf l (countsOf f)) (k .run .left) ∙ bad f (k .ready) (k .map-back) in
+    record {
+      file = f;
+      read = on-stop s f n (k .run .on) (end .0) found ∙ ap (λ (at : ℕ). refusedAt n at f) (end .1);
+      map-back = k .map-back;
+      no-plays = k .no-plays;
+    }
+
 -- ---- number 7: a spinner that takes the bonus above its limit is refused at its own offset, whatever stands behind it
 record-over : (r : List ℕ) (c : Counts) (m : ℕ) (x : Content) (n : ℕ) → 2 ≤ length r → wordAt r 0 2 ≡ m
     → inOrder (c .last) (rankOf m) ≡ true → isFull c (rankOf m) ≡ false → bodyOf r m ≡ good (x, n) → 2147483647 < c .bonus + contentBonus x
@@ -388,31 +456,58 @@ unfolding countsOf
 object-over f o rest r room high w =
     let k = marked o rest w in
     record-over (objectBytes o ++ rest) (countsOf f) (k .mark) (object o) (objectSize o) (two-bytes (objectBytes o) rest (object-two o)) (k .there)
-    (rw (k .rank) (in-order (f .last) 3 (lit< tt) (r .begun) (r .early))) (rw (k .rank) (lt-leb 8192 (length (f .map .objects)) room)) (k .back) high
-
-pub record RefusedBehind (m : Map) (n : ℕ) (s : List ℕ) : Type 0 where
-  pub file : File
-  pub read : fileOf s ≡ refusedAt n (length (mapFile m)) file
-  pub map-back : file .map ≡ m
+    (rw (k .rank) (in-order (f .last) 3 (lit< tt) (r .begun) (r .early))) (rw (k .rank) (lt-leb 8192 (length (f .map .objects)) room))
+    (k .body ∙ k .back) high
 
 pub over-bonus : (m : Map) (o : Object) (rest : List ℕ) → MapWithin m → ObjectWithin o → length (m .objects) < 8192 → 2147483647 < bonus (m .objects) + kindBonus (o .kind)
     → RefusedBehind m 7 (mapFile m ++ (objectBytes o ++ rest))
 over-bonus m o rest w v room high =
-    let s = mapFile m ++ (objectBytes o ++ rest) in
-    let k = run-map m (objectBytes o ++ rest) w in
+    let two = two-bytes (objectBytes o) rest (object-two o) in
+    refused-behind m (objectBytes o ++ rest) 7 w (omega (arith, two)) (λ f r e.
+    object-over f o rest r
+    (subst (λ (n : Map). length (n .objects) < 8192) (sym e) room)
+    (subst (λ (n : Map). 2147483647 < bonus (n .objects) + kindBonus (o .kind)) (sym e) high) v)
+
+-- ---- a play that is put after the map: refused for a field of its own at its own offset, or the file's only play
+record-refused : (r : List ℕ) (c : Counts) (m n : ℕ) → 2 ≤ length r → wordAt r 0 2 ≡ m
+    → inOrder (c .last) (rankOf m) ≡ true → isFull c (rankOf m) ≡ false → bodyOf r m ≡ refused n
+    → recordOf r c ≡ refused n
+unfolding recordOf _>>=_ _>>_ refuse_when_
+record-refused r c m n two mark order room body = simp (le-ltb _ _ two, mark, order, room, body)
+
+play-refused : (f : File) (p : Play) (rest : List ℕ) (n : ℕ) → Ready f 4 → playOf (playBytes p ++ rest) ≡ refused n
+    → recordOf (playBytes p ++ rest) (countsOf f) ≡ refused n
+unfolding bodyOf countsOf
+play-refused f p rest n r e =
+    record-refused (playBytes p ++ rest) (countsOf f) PL n (play-two p rest) (play-mark p rest)
+    (in-order (f .last) 4 (lit< tt) (r .begun) (r .early)) refl e
+
+pub refused-play : (m : Map) (p : Play) (rest : List ℕ) (n : ℕ) → MapWithin m → playOf (playBytes p ++ rest) ≡ refused n
+    → RefusedBehind m n (mapFile m ++ (playBytes p ++ rest))
+refused-play m p rest n w e =
+    let two = play-two p rest in
+    refused-behind m (playBytes p ++ rest) n w (omega (arith, two)) (λ f r _. play-refused f p rest n (ready-on f r) e)
+
+pub record PlayBehind (m : Map) (p : Play) (s : List ℕ) : Type 0 where
+  pub file : File
+  pub read : fileOf s ≡ accepted file
+  pub map-back : file .map ≡ m
+  pub plays-back : file .plays ≡ (length (mapFile m), p) ∷ []
+
+pub last-play : (m : Map) (p : Play) → MapWithin m → playOf (playBytes p ++ []) ≡ good (play p, 44)
+    → PlayBehind m p (mapFile m ++ (playBytes p ++ []))
+unfolding with-record
+last-play m p w e =
+    let rest = playBytes p ++ [] in
+    let s = mapFile m ++ rest in
+    let k = run-map m rest w in
     let f = k .file in
-    let room′ : length (f .map .objects) < 8192 = subst (λ (n : Map). length (n .objects) < 8192) (sym (k .map-back)) room in
-    let high′ : 2147483647 < bonus (f .map .objects) + kindBonus (o .kind) = subst (λ (n : Map). 2147483647 < bonus (n .objects) + kindBonus (o .kind)) (sym (k .map-back)) high in
-    let left = k .run .left in
-    let here = length-drop (f .at) s in
-    let long = ap length left ∙ length-append (objectBytes o) rest in
-    let all = length-append (mapFile m) (objectBytes o ++ rest) in
-    let part = length-append (objectBytes o) rest in
-    let two = object-two o in
-    let before : f .at < length s = omega (arith, here, long, two) in
-    let at : f .at ≡ length (mapFile m) = omega (arith, here, long, all, part, two) in
+    let two = play-two p [] in
+    let end = map-end m rest k (omega (arith, two)) in
+    let next = run-step s f (playBytes p) [] (play p) 44 (k .run) (play-long p .0) (play-long p .1) (play-found f p [] (ready-on f (k .ready)) e) in
     record {
-      file = f;
-      read = on-stop s f 7 (k .run .on) before (ap (λ (l : List ℕ). recordOf l (countsOf f)) left ∙ object-over f o rest (k .ready) room′ high′ v) ∙ ap (λ (n : ℕ). refusedAt 7 n f) at;
+      file = with-record f (play p, 44);
+      read = whole s (with-record f (play p, 44)) next (record { begun = lit< tt; early = omega arith; low = k .ready .low });
       map-back = k .map-back;
+      plays-back = ap₂ (λ (l : List (ℕ × Play)) (at : ℕ). l ++ ((at, p) ∷ [])) (k .no-plays) (end .1);
     }

@@ -82,17 +82,25 @@ abbrev pub ScoreWithin : LegacyTotalScore → Type 0
 ScoreWithin Absent = Unit
 ScoreWithin (Present n) = n < 2 ^ 32
 
--- "higher bits are 0"; "clock rate f64 above 0 and at most 100"
-pub record ModsWithin (m : GameMods) : Type 0 where
+-- flags and clock rate in their widths: they may be out of their ranges (8), and the rate infinite or not a number
+pub record ModsSized (m : GameMods) : Type 0 where
   pub flags : m .flags < 2 ^ 16
-  pub known : flagsBad (m .flags) ≡ false
   pub held : T (fits binary64 (m .«clock_rate»))
-  pub above : lt (ofBits binary64 0) (m .«clock_rate») ≡ true
-  pub below : le (m .«clock_rate») (ofBits binary64 0x4059000000000000) ≡ true
 
-pub record PlayWithin (p : Play) : Type 0 where
+-- what a play's types alone ask
+pub record PlaySized (p : Play) : Type 0 where
   pub passed : p .«passed_objects» < 2 ^ 16
   pub combo : p .«max_combo» < 2 ^ 32
   pub hits : HitsWithin (p .hitresults)
   pub score : ScoreWithin (p .«legacy_total_score»)
+  pub mods : ModsSized (p .mods)
+
+-- "higher bits are 0"; "clock rate f64 above 0 and at most 100"
+pub record ModsWithin (m : GameMods) : Type 0 where
+  pub known : flagsBad (m .flags) ≡ false
+  pub above : lt (ofBits binary64 0) (m .«clock_rate») ≡ true
+  pub below : le (m .«clock_rate») (ofBits binary64 0x4059000000000000) ≡ true
+
+pub record PlayWithin (p : Play) : Type 0 where
+  pub sized : PlaySized p
   pub mods : ModsWithin (p .mods)

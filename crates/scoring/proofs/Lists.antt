@@ -37,7 +37,7 @@ scores-append m (p ∷ ps) qs =
     let first = at-offset (p .0) (playScoreOn m (p .1)) in
     ap (λ (b : Several). then first (λ s. then b (λ ss. values (s ∷ ss)))) (scores-append m ps qs) ∙ joined-one first (playScores m ps) (playScores m qs)
 
-scores-one : (m : Map) (at : ℕ) (p : Play) → playScores m ((at, p) ∷ []) ≡ then (at-offset at (playScoreOn m p)) (λ s. values (s ∷ []))
+pub scores-one : (m : Map) (at : ℕ) (p : Play) → playScores m ((at, p) ∷ []) ≡ then (at-offset at (playScoreOn m p)) (λ s. values (s ∷ []))
 unfolding playScores
 scores-one m at p = refl
 

@@ -31,7 +31,7 @@ use Rattle.board.specs.declared.edit.Alone.the-variants as alone
 use Rattle.board.proofs.Binds.{bound, passed, bind-good, bind-refused, then-good, then-refused, when-true, when-false}
 
 -- ---- an object that was read alone is within its limits
-alone-within : (r : List ℕ) (o : Object) → objectIn r ≡ good o → ObjectWithin o
+pub alone-within : (r : List ℕ) (o : Object) → objectIn r ≡ good o → ObjectWithin o
 unfolding objectIn
 alone-within r o e =
     let a = passed 3 _ _ o e in

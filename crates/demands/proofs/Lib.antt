@@ -1,2 +1,4 @@
 pub mod Rules
 pub mod Demands
+pub mod Maps
+pub mod EditRight

@@ -38,16 +38,16 @@ abbrev pub IsRule : ℕ → Type 0
 IsRule n = (2 ≤ n) × (n ≤ 10)
 
 -- a value, or a rule's number
-data Ruled {A : Type 0} : Checked A → Type 0 where
+pub data Ruled {A : Type 0} : Checked A → Type 0 where
   fine : {a : A} → Ruled (good a)
   rule : {n : ℕ} → IsRule n → Ruled (refused n)
 
-ruled-bind : {A B : Type 0} (x : Checked A) (f : A → Checked B) → Ruled x → ((a : A) → Ruled (f a)) → Ruled (x >>= f)
+pub ruled-bind : {A B : Type 0} (x : Checked A) (f : A → Checked B) → Ruled x → ((a : A) → Ruled (f a)) → Ruled (x >>= f)
 unfolding _>>=_
 ruled-bind (refused n) f (rule r) k = rule r
 ruled-bind (good a) f fine k = k a
 
-ruled-when : {B : Type 0} (n : ℕ) (b : Bool) (y : Checked B) → IsRule n → Ruled y → Ruled ((refuse n when b) >> y)
+pub ruled-when : {B : Type 0} (n : ℕ) (b : Bool) (y : Checked B) → IsRule n → Ruled y → Ruled ((refuse n when b) >> y)
 unfolding _>>_ refuse_when_
 ruled-when n true y r k = rule r
 ruled-when n false y r k = k
@@ -56,10 +56,10 @@ ruled-pick : {A : Type 0} (b : Bool) {x y : Checked A} → Ruled x → Ruled y �
 ruled-pick true p q = p
 ruled-pick false p q = q
 
-two : IsRule 2
+pub two : IsRule 2
 two = (omega arith, omega arith)
 
-three : IsRule 3
+pub three : IsRule 3
 three = (omega arith, omega arith)
 
 four : IsRule 4
@@ -74,7 +74,7 @@ six = (omega arith, omega arith)
 seven : IsRule 7
 seven = (omega arith, omega arith)
 
-eight : IsRule 8
+pub eight : IsRule 8
 eight = (omega arith, omega arith)
 
 nine : IsRule 9
@@ -141,7 +141,7 @@ ruled-play r =
     ruled-when 2 _ _ two (ruled-bind _ _ (ruled-origin (originOf (wordAt r 28 1))) (λ o. ruled-bind _ _ (ruled-score (scoreOf (wordAt r 29 1) (wordAt r 30 4))) (λ s.
     ruled-when 8 _ _ eight (ruled-bind _ _ (ruled-played (rateOf (wordAt r 36 8))) (λ x. fine)))))
 
-ruled-object : (r : List ℕ) (m : ℕ) → Ruled (objectOf r m)
+pub ruled-object : (r : List ℕ) (m : ℕ) → Ruled (objectOf r m)
 unfolding objectOf
 ruled-object r m = ruled-pick (eqb m CI) (ruled-circle r) (ruled-pick (eqb m SL) (ruled-slider r) (ruled-pick (eqb m SP) (ruled-spinner r) (rule three)))
 
@@ -190,7 +190,7 @@ unfolding fileOf
 ruled-file s = ruled-from (suc (length s)) s fresh (omega arith)
 
 -- ---- the plays
-ruled-score-of : (p : Play) (a : ScoreAttributes) → Ruled (playScore p a)
+pub ruled-score-of : (p : Play) (a : ScoreAttributes) → Ruled (playScore p a)
 unfolding playScore
 ruled-score-of p a = ruled-when 9 _ _ nine (ruled-when 10 _ _ ten fine)
 

@@ -104,7 +104,7 @@ pub record FileWithin (f : File) : Type 0 where
   pub few-objects : length (f .map .objects) ≤ 8192
   pub low-bonus : bonus (f .map .objects) ≤ 2147483647
 
-each-snoc : {A : Type 0} {P : A → Type 0} (l : List A) (a : A) → Each P l → P a → Each P (l ++ (a ∷ []))
+pub each-snoc : {A : Type 0} {P : A → Type 0} (l : List A) (a : A) → Each P l → P a → Each P (l ++ (a ∷ []))
 each-snoc [] a none p = one p none
 each-snoc (x ∷ l) a (one q ps) p = one q (each-snoc l a ps p)
 

@@ -5,4 +5,3 @@ pub mod Multiplier
 pub mod ScoreBased
 pub mod ComboBased
 pub mod Effective
-pub mod Runs

@@ -1,0 +1,165 @@
+-- What follows from the claim and from the calls' definitions: one edit leads between neighbouring maps, an edit touches little, and a board that a
+-- map has gets no 13.
+use Prim.Native.Nat.{ℕ, zero, suc, _+_, _*_, _/_, _^_, _≤_, _<_}
+use mathlib.Core.Path.{_≡_, refl, sym, ap, ap₂, _∙_, subst}
+use mathlib.Core.Logic.{_≢_}
+use mathlib.Core.Bool.{Bool, true, false, cond}
+use mathlib.Core.List.{List, [], _∷_, _++_, append-nil}
+use native.Mathlib.Nat.{not-suc-le-zero, le-of-suc-le-suc}
+use native.Mathlib.Omega.{arith}
+use borrow.Author.Tests.{lt-ltb, le-ltb, eq-eqb, ne-eqb, leb-false}
+use lib.Dec.{eqb, ltb, leb}
+use lib.Ieee.{Float, nan}
+use lib.ListN.{length, drop, getD, set, length-append, length-set}
+use lib.Seq.{getD-set-other}
+use Rattle.numbers.specs.Words.{wordAt}
+use Rattle.records.specs.Refusals.{Checked, good, refused, _>>=_, _>>_, refuse_when_}
+use Rattle.records.specs.Objects.{Object, Kind, circle, slider, spinner}
+use Rattle.records.specs.Records.{Content, header, break, object, play, objectOf}
+use Rattle.records.specs.File.{Map}
+use Rattle.records.specs.declared.beatmap.Settings.{Settings}
+use Rattle.records.specs.declared.play.Play.{Play}
+use Rattle.records.proofs.Laws.{never}
+use Rattle.encoding.specs.Encoding.{fieldsOf, circleFields, sliderFields, spinnerFields, nestedBytes, kindBytes, objectBytes}
+use Rattle.encoding.specs.Limits.{Each, none, one, ObjectWithin, MapWithin}
+use Rattle.encoding.proofs.FieldBytes.{fields-length}
+use Rattle.encoding.proofs.RoundTrip.{object-back}
+use Rattle.simulator.specs.Attributes.{scoreAttributesAt}
+use Rattle.simulator.specs.declared.attributes.ScoreAttributes.{ScoreAttributes}
+use Rattle.scoring.specs.PlayRules.{modsBad, playScore}
+use Rattle.scoring.specs.Scores.{givenAnswer, givenScore}
+use Rattle.scoring.specs.declared.play_score.PlayScore.{PlayScore}
+use Rattle.scoring.specs.declared.score.GivenPlay.the-variants as given
+use Rattle.entries.specs.Entry.{entryOf}
+use Rattle.entries.specs.Words.{entryAt}
+use Rattle.tree.specs.Size.{levelsOf, capOf}
+use Rattle.tree.specs.Put.{climbed}
+use Rattle.tree.specs.Board.{Covers}
+use Rattle.tree.proofs.Levels.{levels-hold}
+use Rattle.tree.proofs.Touched.{OthersKept, only-covering, few-cover}
+use Rattle.board.specs.Place.{roomFor, putAt, writtenLeft}
+use Rattle.board.specs.Edit.{objectOnly, objectIn, editOf}
+use Rattle.board.specs.declared.place.Written.{Written}
+use Rattle.board.specs.declared.place.Written.the-variants as written
+use Rattle.board.proofs.Binds.{bound, passed}
+use Rattle.board.proofs.Rooms as rooms
+use Rattle.demands.specs.Calls.{isAccepted, changed, timesOf, Lent, lentFor, Call, edit, read, Answer, edits, reads, answer, lentAfter, putIfAccepted, mapAfter, recordAnswer, editAnswer}
+use Rattle.demands.proofs.Rules.{IsRule, Ruled, fine, rule, ruled-bind, ruled-when, ruled-object, ruled-score-of, two, three, eight}
+use Rattle.demands.proofs.Maps.{within-accepted}
+use Rattle.demands.proofs.EditRight.{edit-right}
+use Rattle.demands.proofs.ReadRight.{read-right}
+
+-- ---- an object's own record is an edit's
+two-bytes : (o : Object) → 2 ≤ length (objectBytes o)
+unfolding objectBytes
+two-bytes o = go (o .kind)
+  where
+    go : (k : Kind) → 2 ≤ length (kindBytes (o .start) k)
+    go circle = let e : length (fieldsOf (circleFields (o .start))) ≡ 10 = fields-length (circleFields (o .start)) in omega (arith, e)
+    go (slider is) =
+        let e : length (fieldsOf (sliderFields (o .start) (length is + 1))) ≡ 12 = fields-length (sliderFields (o .start) (length is + 1)) in
+        let f = length-append (fieldsOf (sliderFields (o .start) (length is + 1))) (nestedBytes is) in
+        omega (arith, e, f)
+    go (spinner d) = let e : length (fieldsOf (spinnerFields (o .start) d)) ≡ 18 = fields-length (spinnerFields (o .start) d) in omega (arith, e)
+
+own-record : (o : Object) → ObjectWithin o → objectIn (objectBytes o) ≡ good o
+unfolding objectIn _>>=_ _>>_ refuse_when_
+own-record o w =
+    let r = objectBytes o in
+    let two = two-bytes o in
+    let found : objectOf r (wordAt r 0 2) ≡ good (object o, length r) =
+    subst (λ (l : List ℕ). objectOf l (wordAt l 0 2) ≡ good (object o, length r)) (append-nil r) (object-back o [] w) in
+    simp (ne-eqb (length r) 0 (λ z. (omega (arith, two, z))), le-ltb (length r) 2 two, found, le-ltb (length r) (length r) (omega arith))
+
+object-at : (os : List Object) (place : ℕ) (o : Object) → place < length os → Each ObjectWithin (set os place o) → ObjectWithin o
+object-at [] place o h w = absurd (not-suc-le-zero h)
+object-at (x ∷ os) zero o h (one w ws) = w
+object-at (x ∷ os) (suc place) o h (one w ws) = object-at os place o (le-of-suc-le-suc h) ws
+
+-- "between two accepted maps that differ in one place one edit leads": the edit with that object's own record
+pub record Leads (m : Map) (place : ℕ) (o : Object) (words : List ℕ) (numbers : List Float) : Type 0 where
+  pub done : answer (edit (length (m .objects)) place (objectBytes o)) (lentFor m words numbers) ≡ edits written.Done
+  pub there : lentAfter (edit (length (m .objects)) place (objectBytes o)) (lentFor m words numbers) ≡ lentFor (changed m place o) words numbers
+
+pub one-edit-leads : (m : Map) (place : ℕ) (o : Object) (words : List ℕ) (numbers : List Float) → MapWithin m → place < length (m .objects)
+    → MapWithin (changed m place o) → Leads m place o words numbers
+unfolding answer lentAfter
+one-edit-leads m place o words numbers w h w′ = record { done = ap (λ (z : Z). edits (z .0)) right; there = ap (λ (z : Z). record { board = z .1; starts = z .2 }) right }
+  where
+    Z : Type 0
+    Z = Written × List ℕ × List Float
+
+    left : Written → Map → Z
+    left a x = (a, Rattle.tree.specs.Board.boardOf (x .objects) ++ words, Rattle.tree.specs.Board.startsOf (x .objects) ++ numbers)
+
+    by : Bool → Checked Object → Bool → Z
+    by t (refused k) a = left (cond t (written.Refused k 0) (written.Refused 12 0)) m
+    by t (good u) a =
+        left (cond t (cond a written.Done (written.Refused 7 0)) (written.Refused 12 0)) (cond t (cond a (changed m place u) m) m)
+
+    right : writtenLeft (editOf (lentFor m words numbers .board) (lentFor m words numbers .starts) (length (m .objects)) place (objectBytes o)) (lentFor m words numbers .board) (lentFor m words numbers .starts)
+        ≡ left written.Done (changed m place o)
+    right =
+        edit-right m w words numbers place (objectBytes o)
+        ∙ ap₂ (λ (t : Bool) (x : Checked Object). left (cond t (recordAnswer m place x) (written.Refused 12 0)) (cond t (putIfAccepted m place x) m))
+        (lt-ltb place (length (m .objects)) h) (own-record o (object-at (m .objects) place o h (w′ .objects)))
+        ∙ ap (λ (a : Bool). left (cond a written.Done (written.Refused 7 0)) (cond a (changed m place o) m)) (within-accepted (changed m place o) w′)
+
+-- ---- "an edit changes only the entries that cover its place, at most 14, and its start": on any lent content
+pub record Touches (n place : ℕ) (b : List ℕ) (ts : List Float) (written : List ℕ × List Float) : Type 0 where
+  pub inside : place < capOf n
+  pub words : OthersKept n place b (written .0)
+  pub covering : (x : ℕ) → Covers (capOf n) x place → (k : ℕ) × (k < 14) × (x ≡ (capOf n + place) / 2 ^ k)
+  pub starts : (i : ℕ) → i ≢ place → getD (written .1) i nan ≡ getD ts i nan
+
+pub edit-touches-only : (b : List ℕ) (ts : List Float) (n place : ℕ) (r : List ℕ) (w : List ℕ × List Float) → editOf b ts n place r ≡ good w → Touches n place b ts w
+unfolding editOf putAt
+edit-touches-only b ts n place r w e = go (roomFor b ts n) refl e
+  where
+    go : (x : Checked (Unit {0})) → roomFor b ts n ≡ x
+        → (x >> ((refuse 12 when leb n place) >> (objectIn r >>= (λ o. putAt (record { levels = levelsOf n; cap = capOf n }) place (entryOf (o ∷ [])) (o .start) b ts)))) ≡ good w
+        → Touches n place b ts w
+    go x q e = ?
+
+-- ---- "an honest board never gets 13"
+record-ruled : (r : List ℕ) → Ruled (objectIn r)
+unfolding objectIn
+record-ruled r =
+    ruled-when 3 _ _ three (ruled-when 2 _ _ two (ruled-bind (objectOf r (wordAt r 0 2)) _ (ruled-object r (wordAt r 0 2)) (λ f.
+    ruled-bind (objectOnly (f .0)) _ (only (f .0)) (λ o. ruled-when 3 _ _ three fine))))
+  where
+    only : (c : Content) → Ruled (objectOnly c)
+    only (header s) = rule three
+    only (break b) = rule three
+    only (object o) = fine
+    only (play p) = rule three
+
+pub never-13-edit : (m : Map) (words : List ℕ) (numbers : List Float) (place : ℕ) (r : List ℕ) → MapWithin m
+    → answer (edit (length (m .objects)) place r) (lentFor m words numbers) ≢ edits (written.Refused 13 0)
+unfolding answer
+never-13-edit m words numbers place r w e =
+    go (ltb place (length (m .objects))) (objectIn r) (record-ruled r) (sym (ap (λ (z : Written × List ℕ × List Float). edits (z .0)) (edit-right m w words numbers place r)) ∙ e)
+  where
+    accepts : (t : Bool) → edits (cond t written.Done (written.Refused 7 0)) ≢ edits (written.Refused 13 0)
+    accepts true h = never (cc)
+    accepts false h = let k : 7 ≡ 13 = cc in absurd (omega (arith, k))
+
+    go : (t : Bool) (x : Checked Object) → Ruled x → edits (cond t (recordAnswer m place x) (written.Refused 12 0)) ≢ edits (written.Refused 13 0)
+    go false x k h = let s : 12 ≡ 13 = cc in absurd (omega (arith, s))
+    go true (refused n) (rule is) h = let s : n ≡ 13 = cc in absurd (omega (arith, s, is .1))
+    go true (good o) k h = accepts (isAccepted (changed m place o)) h
+
+score-ruled : (p : Play) (a : ScoreAttributes) → Ruled (givenScore p a)
+unfolding givenScore
+score-ruled p a = ruled-when 8 _ _ eight (ruled-score-of p a)
+
+pub never-13-read : (m : Map) (words : List ℕ) (numbers : List Float) (p : Play) → MapWithin m
+    → answer (read (length (m .objects)) (m .settings) (timesOf (m .breaks)) p) (lentFor m words numbers) ≢ reads (given.Refused 13 0)
+unfolding answer
+never-13-read m words numbers p w e =
+    go (givenScore p (scoreAttributesAt m (p .«passed_objects»))) (score-ruled p (scoreAttributesAt m (p .«passed_objects»)))
+    (sym (ap (λ (x : Checked PlayScore). reads (givenAnswer x)) (read-right m words numbers p w)) ∙ e)
+  where
+    go : (x : Checked PlayScore) → Ruled x → reads (givenAnswer x) ≢ reads (given.Refused 13 0)
+    go (refused n) (rule is) h = let s : n ≡ 13 = cc in absurd (omega (arith, s, is .1))
+    go (good s) k h = never (cc)

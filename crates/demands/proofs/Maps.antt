@@ -1,0 +1,105 @@
+-- Which changed maps are accepted: an accepted map with another object within its limits can break only the rule on the legacy bonus.
+use Prim.Native.Nat.{ℕ, _+_, _≤_, _<_}
+use mathlib.Core.Path.{_≡_, refl, sym, ap, _∙_, subst}
+use mathlib.Core.Bool.{Bool, true, false, not}
+use mathlib.Core.List.{List, [], _∷_, _++_, append-assoc, append-nil}
+use native.Mathlib.Omega.{arith}
+use native.Mathlib.Decide.{decLt}
+use borrow.Author.Tests.{ltb-true, ltb-false}
+use lib.Dec.{ltb}
+use lib.ListN.{length, set, length-set}
+use Rattle.records.specs.Objects.{Object, bonus, kindBonus}
+use Rattle.records.specs.File.{Map, accepted, fileOf}
+use Rattle.records.proofs.Reading.{length-snoc, bonus-snoc}
+use Rattle.encoding.specs.Encoding.{headerBytes, breakBytes, objectBytes, each, mapFile}
+use Rattle.encoding.specs.Limits.{Each, none, one, ObjectWithin, MapWithin}
+use Rattle.encoding.proofs.Accepted.{each-snoc}
+use Rattle.encoding.proofs.RoundTrip.{round-trip, over-bonus}
+use Rattle.tree.proofs.Changed.{each-set}
+use Rattle.demands.specs.Calls.{getsNone, isAccepted, changed}
+
+-- ---- a map within the limits is accepted
+pub within-accepted : (m : Map) → MapWithin m → isAccepted m ≡ true
+unfolding isAccepted each
+within-accepted m w =
+    let k = round-trip m [] w none in
+    ap getsNone (ap fileOf (sym (append-nil (mapFile m))) ∙ k .read)
+
+-- ---- one whose bonus is too high is not
+abbrev withObjects : Map → List Object → Map
+withObjects m os = record { settings = m .settings; breaks = m .breaks; objects = os }
+
+each-more : (os : List Object) (o : Object) → each objectBytes (os ++ (o ∷ [])) ≡ each objectBytes os ++ objectBytes o
+unfolding each
+each-more [] o = append-nil (objectBytes o)
+each-more (x ∷ os) o = ap (λ (l : List ℕ). objectBytes x ++ l) (each-more os o) ∙ sym (append-assoc (objectBytes x) (each objectBytes os) (objectBytes o))
+
+-- the object behind a map's file makes the file of the map with it
+file-more : (m : Map) (os : List Object) (o : Object) (rest : List ℕ)
+    → mapFile (withObjects m (os ++ (o ∷ []))) ++ rest ≡ mapFile (withObjects m os) ++ (objectBytes o ++ rest)
+unfolding mapFile
+file-more m os o rest = simp (each-more os o, append-assoc)
+
+no-objects : (m : Map) (os : List Object) → mapFile (withObjects m []) ++ each objectBytes os ≡ mapFile (withObjects m os)
+unfolding mapFile each
+no-objects m os = simp (append-assoc, append-nil)
+
+within-more : (m : Map) (os : List Object) (o : Object) → MapWithin (withObjects m os) → ObjectWithin o → length os < 8192
+    → bonus os + kindBonus (o .kind) ≤ 2147483647 → MapWithin (withObjects m (os ++ (o ∷ [])))
+within-more m os o w v room low =
+    let more = length-snoc os o in
+    let sum = bonus-snoc os o in
+    record {
+      settings = w .settings;
+      breaks = w .breaks;
+      few-breaks = w .few-breaks;
+      objects = each-snoc os o (w .objects) v;
+      few-objects = omega (arith, more, room);
+      low-bonus = omega (arith, sum, low);
+    }
+
+-- the objects that are left to read after some
+over : (m : Map) (left os : List Object) → MapWithin (withObjects m os) → Each ObjectWithin left → length os + length left ≤ 8192
+    → 2147483647 < bonus os + bonus left → getsNone (fileOf (mapFile (withObjects m os) ++ each objectBytes left)) ≡ false
+unfolding bonus each
+over m [] os w ws few high = absurd (let low = w .low-bonus in omega (arith, low, high))
+over m (o ∷ left) os w (one v vs) few high = go (λ u n h. over m left (os ++ (o ∷ [])) u vs n h) (decLt 2147483647 (bonus os + kindBonus (o .kind)))
+  where
+    go : (MapWithin (withObjects m (os ++ (o ∷ []))) → length (os ++ (o ∷ [])) + length left ≤ 8192 → 2147483647 < bonus (os ++ (o ∷ [])) + bonus left
+        → getsNone (fileOf (mapFile (withObjects m (os ++ (o ∷ []))) ++ each objectBytes left)) ≡ false)
+        → Dec (2147483647 < bonus os + kindBonus (o .kind)) → getsNone (fileOf (mapFile (withObjects m os) ++ (objectBytes o ++ each objectBytes left))) ≡ false
+    go more (yes h) = ap getsNone (over-bonus (withObjects m os) o (each objectBytes left) w v (omega (arith, few)) h .read)
+    go more (no h) =
+        let count = length-snoc os o in
+        let sum = bonus-snoc os o in
+        ap (λ (s : List ℕ). getsNone (fileOf s)) (sym (file-more m os o (each objectBytes left)))
+        ∙ more (within-more m os o w v (omega (arith, few)) (omega (arith, h))) (omega (arith, count, few)) (omega (arith, sum, high))
+
+nothing-within : (m : Map) → MapWithin m → MapWithin (withObjects m [])
+unfolding bonus
+nothing-within m w =
+    record { settings = w .settings; breaks = w .breaks; few-breaks = w .few-breaks; objects = none; few-objects = omega arith; low-bonus = omega arith }
+
+over-refused : (m : Map) (os : List Object) → MapWithin m → Each ObjectWithin os → length os ≤ 8192 → 2147483647 < bonus os → isAccepted (withObjects m os) ≡ false
+unfolding isAccepted bonus
+over-refused m os w ws few high =
+    ap (λ (s : List ℕ). getsNone (fileOf s)) (sym (no-objects m os)) ∙ over m os [] (nothing-within m w) ws few (omega (arith, high))
+
+-- ---- the changed map
+module _ (m : Map) (w : MapWithin m) (place : ℕ) (o : Object) (v : ObjectWithin o) where
+  objects-within : Each ObjectWithin (set (m .objects) place o)
+  objects-within = each-set place o (w .objects) v
+
+  few : length (set (m .objects) place o) ≤ 8192
+  few = subst (λ (n : ℕ). n ≤ 8192) (sym (length-set (m .objects) place o)) (w .few-objects)
+
+  pub changed-within : bonus (set (m .objects) place o) ≤ 2147483647 → MapWithin (changed m place o)
+  changed-within low =
+      record { settings = w .settings; breaks = w .breaks; few-breaks = w .few-breaks; objects = objects-within; few-objects = few; low-bonus = low }
+
+  pub by-bonus : isAccepted (changed m place o) ≡ not (ltb 2147483647 (bonus (set (m .objects) place o)))
+  by-bonus = go (ltb 2147483647 (bonus (set (m .objects) place o))) refl
+    where
+      go : (t : Bool) → ltb 2147483647 (bonus (set (m .objects) place o)) ≡ t → isAccepted (changed m place o) ≡ not t
+      go true e = over-refused m (set (m .objects) place o) w objects-within few (ltb-true 2147483647 (bonus (set (m .objects) place o)) e)
+      go false e = within-accepted (changed m place o) (changed-within (ltb-false 2147483647 (bonus (set (m .objects) place o)) e))

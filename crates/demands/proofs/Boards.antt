@@ -92,11 +92,6 @@ one-edit-leads m place o words numbers w h w′ = record { done = ap (λ (z : Z)
     left : Written → Map → Z
     left a x = (a, Rattle.tree.specs.Board.boardOf (x .objects) ++ words, Rattle.tree.specs.Board.startsOf (x .objects) ++ numbers)
 
-    by : Bool → Checked Object → Bool → Z
-    by t (refused k) a = left (cond t (written.Refused k 0) (written.Refused 12 0)) m
-    by t (good u) a =
-        left (cond t (cond a written.Done (written.Refused 7 0)) (written.Refused 12 0)) (cond t (cond a (changed m place u) m) m)
-
     right : writtenLeft (editOf (lentFor m words numbers .board) (lentFor m words numbers .starts) (length (m .objects)) place (objectBytes o)) (lentFor m words numbers .board) (lentFor m words numbers .starts)
         ≡ left written.Done (changed m place o)
     right =
@@ -113,13 +108,35 @@ pub record Touches (n place : ℕ) (b : List ℕ) (ts : List Float) (written : L
   pub starts : (i : ℕ) → i ≢ place → getD (written .1) i nan ≡ getD ts i nan
 
 pub edit-touches-only : (b : List ℕ) (ts : List Float) (n place : ℕ) (r : List ℕ) (w : List ℕ × List Float) → editOf b ts n place r ≡ good w → Touches n place b ts w
-unfolding editOf putAt
+unfolding editOf putAt _>>_
 edit-touches-only b ts n place r w e = go (roomFor b ts n) refl e
   where
-    go : (x : Checked (Unit {0})) → roomFor b ts n ≡ x
-        → (x >> ((refuse 12 when leb n place) >> (objectIn r >>= (λ o. putAt (record { levels = levelsOf n; cap = capOf n }) place (entryOf (o ∷ [])) (o .start) b ts)))) ≡ good w
-        → Touches n place b ts w
-    go x q e = ?
+    rest : Checked (List ℕ × List Float)
+    rest = (refuse 12 when leb n place) >> (objectIn r >>= (λ o.
+        climbed (levelsOf n) b (capOf n + place) (entryOf (o ∷ [])) >>= (λ l. good (l, set ts place (o .start)))))
+
+    by : Checked (List ℕ × List Float) → List ℕ × List Float → List ℕ × List Float
+    by (refused k) z = z
+    by (good x) z = x
+
+    go : (x : Checked (Unit {0})) → roomFor b ts n ≡ x → (x >> rest) ≡ good w → Touches n place b ts w
+    go (refused k) q e = never (cc)
+    go (good u) q e =
+        let m = rooms.measured b ts n u q in
+        let c = passed 12 (leb n place) (objectIn r >>= (λ o. climbed (levelsOf n) b (capOf n + place) (entryOf (o ∷ [])) >>= (λ l. good (l, set ts place (o .start))))) w e in
+        let d = bound (objectIn r) (λ o. climbed (levelsOf n) b (capOf n + place) (entryOf (o ∷ [])) >>= (λ l. good (l, set ts place (o .start)))) w (c .1) in
+        let f = bound (climbed (levelsOf n) b (capOf n + place) (entryOf (d .value ∷ []))) (λ l. good (l, set ts place (d .value .start))) w (d .second) in
+        let same : (f .value, set ts place (d .value .start)) ≡ w = ap (λ (x : Checked (List ℕ × List Float)). by x w) (f .second) in
+        let low : place < n = leb-false n place (c .0) in
+        let held = levels-hold n (m .few) in
+        let in-places : place < capOf n = omega (arith, low, held) in
+        record {
+          inside = in-places;
+          words = subst (λ (z : List ℕ × List Float). OthersKept n place b (z .0)) same
+              (only-covering n place b (f .value) (entryOf (d .value ∷ [])) in-places (f .first));
+          covering = λ x h. few-cover n place x in-places h;
+          starts = λ i other. sym (ap (λ (z : List ℕ × List Float). getD (z .1) i nan) same) ∙ getD-set-other ts place i (d .value .start) nan other;
+        }
 
 -- ---- "an honest board never gets 13"
 record-ruled : (r : List ℕ) → Ruled (objectIn r)
@@ -142,10 +159,10 @@ never-13-edit m words numbers place r w e =
   where
     accepts : (t : Bool) → edits (cond t written.Done (written.Refused 7 0)) ≢ edits (written.Refused 13 0)
     accepts true h = never (cc)
-    accepts false h = let k : 7 ≡ 13 = cc in absurd (omega (arith, k))
+    accepts false h = let k : _≡_ {A = ℕ} 7 13 = cc in absurd (omega (arith, k))
 
     go : (t : Bool) (x : Checked Object) → Ruled x → edits (cond t (recordAnswer m place x) (written.Refused 12 0)) ≢ edits (written.Refused 13 0)
-    go false x k h = let s : 12 ≡ 13 = cc in absurd (omega (arith, s))
+    go false x k h = let s : _≡_ {A = ℕ} 12 13 = cc in absurd (omega (arith, s))
     go true (refused n) (rule is) h = let s : n ≡ 13 = cc in absurd (omega (arith, s, is .1))
     go true (good o) k h = accepts (isAccepted (changed m place o)) h
 

@@ -87,10 +87,10 @@ module _ (words : List ℕ) (numbers : List Float) where
   unfolding lentAfter mapAfter
   read-steps n s br p m w = (
     λ count settings breaks v.
-    subst (λ (k : ℕ). ReadAnswer m p (answer (read k s br p) (lentFor m words numbers))) (sym count)
-    (subst (λ (x : Settings). ReadAnswer m p (answer (read (length (m .objects)) x br p) (lentFor m words numbers))) (sym settings)
-    (subst (λ (x : List Float). ReadAnswer m p (answer (read (length (m .objects)) (m .settings) x p) (lentFor m words numbers))) (sym breaks)
-    (read-answer m w p v))),
+        subst (λ (k : ℕ). ReadAnswer m p (answer (read k s br p) (lentFor m words numbers))) (sym count)
+        (subst (λ (x : Settings). ReadAnswer m p (answer (read (length (m .objects)) x br p) (lentFor m words numbers))) (sym settings)
+        (subst (λ (x : List Float). ReadAnswer m p (answer (read (length (m .objects)) (m .settings) x p) (lentFor m words numbers))) (sym breaks)
+        (read-answer m w p v))),
     refl,
     w,
   )
@@ -102,8 +102,7 @@ module _ (words : List ℕ) (numbers : List Float) where
       let e = edit-right m w words numbers place r in
       let same = eq-eqb (length (m .objects)) (length (m .objects)) refl in
       let map : mapAfter (edit (length (m .objects)) place r) m ≡ cond (ltb place (length (m .objects))) (putIfAccepted m place (objectIn r)) m =
-      ap (λ (t : Bool). cond (t && ltb place (length (m .objects))) (putIfAccepted m place (objectIn r)) m) same in
-      (
+      ap (λ (t : Bool). cond (t && ltb place (length (m .objects))) (putIfAccepted m place (objectIn r)) m) same in (
         λ _. ap (λ (z : Written × List ℕ × List Float). answered (z .0)) e,
         ap (λ (z : Written × List ℕ × List Float). record { board = z .1; starts = z .2 }) e ∙ ap (λ (x : Map). lentFor x words numbers) (sym map),
         subst MapWithin (sym map) (inside (ltb place (length (m .objects)))),
@@ -119,11 +118,10 @@ module _ (words : List ℕ) (numbers : List Float) where
   unfolding answer lentAfter mapAfter
   other-steps n place r m w other h =
       let map : mapAfter (edit n place r) m ≡ m =
-      ap (λ (t : Bool). cond (t && ltb place n) (putIfAccepted m place (objectIn r)) m) (ne-eqb n (length (m .objects)) other) in
-      (
+      ap (λ (t : Bool). cond (t && ltb place n) (putIfAccepted m place (objectIn r)) m) (ne-eqb n (length (m .objects)) other) in (
         λ count. absurd (other count),
         refused-keeps (editOf (boardOf (m .objects) ++ words) (startsOf (m .objects) ++ numbers) n place r) (lentFor m words numbers) h
-        ∙ ap (λ (x : Map). lentFor x words numbers) (sym map),
+            ∙ ap (λ (x : Map). lentFor x words numbers) (sym map),
         subst MapWithin (sym map) w,
       )
 
@@ -143,11 +141,10 @@ module _ (words : List ℕ) (numbers : List Float) where
   pub list-right : (cs : List Call) (m : Map) → MapWithin m → MayStand cs m (lentFor m words numbers) → Right words numbers cs m (lentFor m words numbers)
   list-right [] m w _ = (within-accepted m w, refl)
   list-right (c ∷ cs) m w stand =
-      let s = call-steps c m w (stand .0) in
-      (
+      let s = call-steps c m w (stand .0) in (
         s .0,
         subst (λ (l : Lent). Right words numbers cs (mapAfter c m) l) (sym (s .1))
-        (list-right cs (mapAfter c m) (s .2) (subst (λ (l : Lent). MayStand cs (mapAfter c m) l) (s .1) (stand .1))),
+            (list-right cs (mapAfter c m) (s .2) (subst (λ (l : Lent). MayStand cs (mapAfter c m) l) (s .1) (stand .1))),
       )
 
 -- ---- from the build on
@@ -184,9 +181,9 @@ begins s b ts e = go (scoresOf (fileOf s)) refl e
         record {
           within = subst MapWithin map (values-within s sc q);
           lent =
-          ap (λ (x : Outcome Scores). record { board = built x b ts .1; starts = built x b ts .2 }) q
-          ∙ build-done (sc .map) b ts e
-          ∙ ap (λ (x : Map). lentFor x (drop (26 * capOf (length (x .objects))) b) (drop (length (x .objects)) ts)) map;
+              ap (λ (x : Outcome Scores). record { board = built x b ts .1; starts = built x b ts .2 }) q
+              ∙ build-done (sc .map) b ts e
+              ∙ ap (λ (x : Map). lentFor x (drop (26 * capOf (length (x .objects))) b) (drop (length (x .objects)) ts)) map;
         }
 
 pub calls-right : Claim

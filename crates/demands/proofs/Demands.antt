@@ -1,4 +1,4 @@
--- The demands on the engine, 1 and 2: the counterpart of docs/DEMANDS.md, which says which contracts the theorems are about. Each theorem stands
+-- The demands on the engine: the counterpart of docs/DEMANDS.md, which says which contracts the theorems are about. Each theorem stands
 -- under the sentence that it answers. `fileOf` and `scoresOf` are what the contracts of the public calls say of the bytes that they are given.
 use mathlib.Core.Path.{_≡_, refl, sym, ap, _∙_, subst}
 use mathlib.Core.Bool.{Bool, true, false}
@@ -20,7 +20,9 @@ use Rattle.scoring.specs.PlayRules.{exceeds, overCombo, playScore}
 use Rattle.scoring.specs.Scores.{Outcome, refusal, values, at-offset, then, Scores, playScoreOn, playScores, scoresOf}
 use Rattle.scoring.specs.declared.play_score.PlayScore.{PlayScore}
 use Rattle.scoring.proofs.Answers.{no-number}
+use Rattle.demands.specs.Calls.{Claim}
 use Rattle.demands.proofs.Rules.{IsRule, refusal-rule}
+use Rattle.demands.proofs.CallsRight.{calls-right}
 use Rattle.records.proofs.Laws.{never}
 
 -- ---- Demand 1
@@ -92,3 +94,9 @@ pub values-are-the-definition's : (s : List ℕ) (sc : Scores) → scoresOf (fil
 values-are-the-definition's s sc e =
     let k = no-number s sc e in
     record { file = k .file; read = k .read; map = k .map; plays = scored-all (k .file .map) (k .file .plays) (sc .plays) (k .plays) }
+
+-- ---- Demand 3
+-- "One claim over every admitted LIST of edits and reads, refused calls included": document 01, "Lists of calls", as demands/specs/Calls states it.
+-- What follows from it by name stands in proofs/Boards.
+pub every-list-of-calls : Claim
+every-list-of-calls = calls-right

@@ -83,7 +83,7 @@ nothing-within m w =
 over-refused : (m : Map) (os : List Object) → MapWithin m → Each ObjectWithin os → length os ≤ 8192 → 2147483647 < bonus os → isAccepted (withObjects m os) ≡ false
 unfolding isAccepted bonus
 over-refused m os w ws few high =
-    ap (λ (s : List ℕ). getsNone (fileOf s)) (sym (no-objects m os)) ∙ over m os [] (nothing-within m w) ws few (omega (arith, high))
+    ap (λ (s : List ℕ). getsNone (fileOf s)) (sym (no-objects m os)) ∙ over m os [] (nothing-within m w) ws (omega (arith, few)) (omega (arith, high))
 
 -- ---- the changed map
 module _ (m : Map) (w : MapWithin m) (place : ℕ) (o : Object) (v : ObjectWithin o) where

@@ -46,8 +46,12 @@ same-length-2 c = search needs
 
 returns : tie.Need-returns
 returns c =
-    let room = rooms.told-is (c .before .before .before .before .before .before .before .before .before .before .args .board .now) (c .before .before .before .before .before .before .before .before .before .before .args .starts .now) (c .before .before .before .before .before .before .before .before .before .before .args .count) _ (so (c .before .before .size .given .1) (c .before .before .before .before .room-for .ensures)) in
-    sym (ap (λ (x : Checked (List ℕ × List Float)). writtenLeft x (c .before .before .before .before .before .before .before .before .before .before .args .board .now) (c .before .before .before .before .before .before .before .before .before .before .args .starts .now)) (edits.past (c .before .before .before .before .before .before .before .before .before .before .args .board .now) (c .before .before .before .before .before .before .before .before .before .before .args .starts .now) (c .before .before .before .before .before .before .before .before .before .before .args .count) (c .before .before .before .before .before .before .before .before .before .before .args .place) (c .before .before .before .before .before .before .before .before .before .before .args .bytes .now) (room .0) (c .if1 .taken)))
+    let at1 = c .before .before in
+    let at2 = at1 .before .before in
+    let at3 = at2 .before .before .before .before .before .before in
+    let a = at3 .args in
+    let room = rooms.told-is (a .board .now) (a .starts .now) (a .count) _ (so (at1 .size .given .1) (at2 .room-for .ensures)) in
+    sym (ap (λ (x : Checked (List ℕ × List Float)). writtenLeft x (a .board .now) (a .starts .now)) (edits.past (a .board .now) (a .starts .now) (a .count) (a .place) (a .bytes .now) (room .0) (c .if1 .taken)))
 
 read-alone-requires : tie.Need-read-alone-requires
 read-alone-requires c κs = search needs
@@ -60,21 +64,31 @@ enum-known-object c = search needs
 
 own-requires : tie.Need-own-requires
 own-requires c κs =
-    let found = edits.is-alone (c .before .before .before .before .before .before .before .before .before .before .before .before .before .before .before .before .args .bytes .now) _ (so (c .before .before .before .object .given .1) (c .before .before .before .before .before .read-alone .ensures)) in
+    let at1 = c .before .before .before in
+    let at2 = at1 .before .before in
+    let at3 = at2 .before .before .before .before .before .before .before .before .before .before .before in
+    let found = edits.is-alone (at3 .args .bytes .now) _ (so (at1 .object .given .1) (at2 .read-alone .ensures)) in
     subst (λ (h : HitObject). nestedCount (h .kind) ≤ 1000) (sym (found .same)) (kind-few (found .found .kind) (found .within .kind))
 
 put-at-requires : tie.Need-put-at-requires
 put-at-requires c κs =
-    let room = rooms.told-is (c .before .before .before .before .before .before .before .before .before .before .before .before .before .before .before .before .before .args .board .now) (c .before .before .before .before .before .before .before .before .before .before .before .before .before .before .before .before .before .args .starts .now) (c .before .before .before .before .before .before .before .before .before .before .before .before .before .before .before .before .before .args .count) _ (so (c .before .before .before .before .before .before .before .before .before .size .given .1) (c .before .before .before .before .before .before .before .before .before .before .before .room-for .ensures)) in
-    let found = edits.is-alone (c .before .before .before .before .before .before .before .before .before .before .before .before .before .before .before .before .before .args .bytes .now) _ (so (c .before .before .before .before .object .given .1) (c .before .before .before .before .before .before .read-alone .ensures)) in
-    let cap : c .before .before .before .before .before .before .before .before .before .size .given .0 .0 .cap ≡ capOf (c .before .before .before .before .before .before .before .before .before .before .before .before .before .before .before .before .before .args .count) = room .1 .cap in
-    let places = levels-hold (c .before .before .before .before .before .before .before .before .before .before .before .before .before .before .before .before .before .args .count) (room .1 .few) in
+    let at1 = c .before .before .before .before in
+    let at2 = at1 .before .before in
+    let at3 = at2 .before in
+    let at4 = at3 .before .before in
+    let at5 = at4 .before .before in
+    let at6 = at5 .before .before .before .before .before .before in
+    let a = at6 .args in
+    let room = rooms.told-is (a .board .now) (a .starts .now) (a .count) _ (so (at4 .size .given .1) (at5 .room-for .ensures)) in
+    let found = edits.is-alone (a .bytes .now) _ (so (at1 .object .given .1) (at2 .read-alone .ensures)) in
+    let cap : at4 .size .given .0 .0 .cap ≡ capOf (a .count) = room .1 .cap in
+    let places = levels-hold (a .count) (room .1 .few) in
     let words = room .1 .words in
     let numbers = room .1 .numbers in (
-      omega (arith, cap, places, c .before .before .before .before .before .before .before .if1 .left),
+      omega (arith, cap, places, at3 .if1 .left),
       omega (arith, cap, words),
-      omega (arith, numbers, c .before .before .before .before .before .before .before .if1 .left),
-      ap inLimits (c .own .ensures ∙ edits.own-is (c .before .before .before .before .before .before .before .before .before .before .before .before .before .before .before .before .before .args .bytes .now) _ found) ∙ edits.own-within (found .found) (found .within),
+      omega (arith, numbers, at3 .if1 .left),
+      ap inLimits (c .own .ensures ∙ edits.own-is (a .bytes .now) _ found) ∙ edits.own-within (found .found) (found .within),
     )
 
 written-requires : tie.Need-written-requires
@@ -88,7 +102,10 @@ same-length-4 c = search needs
 
 returns-2 : tie.Need-returns-2
 returns-2 c =
-    sym (ap (λ (x : Checked (List ℕ × List Float)). writtenLeft x (c .before .before .before .before .before .before .before .before .before .args .board .now) (c .before .before .before .before .before .before .before .before .before .args .starts .now)) (edits.no-room (c .before .before .before .before .before .before .before .before .before .args .board .now) (c .before .before .before .before .before .before .before .before .before .args .starts .now) (c .before .before .before .before .before .before .before .before .before .args .count) (c .before .before .before .before .before .before .before .before .before .args .place) (c .before .before .before .before .before .before .before .before .before .args .bytes .now) _ (rooms.told-refused (c .before .before .before .before .before .before .before .before .before .args .board .now) (c .before .before .before .before .before .before .before .before .before .args .starts .now) (c .before .before .before .before .before .before .before .before .before .args .count) _ (so (c .before .number .given .1) (c .before .before .before .room-for .ensures)))))
+    let at1 = c .before .before .before in
+    let at2 = at1 .before .before .before .before .before .before in
+    let a = at2 .args in
+    sym (ap (λ (x : Checked (List ℕ × List Float)). writtenLeft x (a .board .now) (a .starts .now)) (edits.no-room (a .board .now) (a .starts .now) (a .count) (a .place) (a .bytes .now) _ (rooms.told-refused (a .board .now) (a .starts .now) (a .count) _ (so (c .before .number .given .1) (at1 .room-for .ensures)))))
 
 same-length-5 : tie.Need-same-length-5
 same-length-5 c = search needs
@@ -98,8 +115,14 @@ same-length-6 c = search needs
 
 returns-3 : tie.Need-returns-3
 returns-3 c =
-    let room = rooms.told-is (c .before .before .before .before .before .before .before .before .before .before .before .before .before .before .args .board .now) (c .before .before .before .before .before .before .before .before .before .before .before .before .before .before .args .starts .now) (c .before .before .before .before .before .before .before .before .before .before .before .before .before .before .args .count) _ (so (c .before .before .before .before .before .before .size .given .1) (c .before .before .before .before .before .before .before .before .room-for .ensures)) in
-    sym (ap (λ (x : Checked (List ℕ × List Float)). writtenLeft x (c .before .before .before .before .before .before .before .before .before .before .before .before .before .before .args .board .now) (c .before .before .before .before .before .before .before .before .before .before .before .before .before .before .args .starts .now)) (edits.bad-record (c .before .before .before .before .before .before .before .before .before .before .before .before .before .before .args .board .now) (c .before .before .before .before .before .before .before .before .before .before .before .before .before .before .args .starts .now) (c .before .before .before .before .before .before .before .before .before .before .before .before .before .before .args .count) (c .before .before .before .before .before .before .before .before .before .before .before .before .before .before .args .place) (c .before .before .before .before .before .before .before .before .before .before .before .before .before .before .args .bytes .now) (room .0) (c .before .before .before .before .if1 .left) _ (edits.not-alone (c .before .before .before .before .before .before .before .before .before .before .before .before .before .before .args .bytes .now) _ (so (c .before .number2 .given .1) (c .before .before .before .read-alone .ensures)))))
+    let at1 = c .before .before .before in
+    let at2 = at1 .before in
+    let at3 = at2 .before .before in
+    let at4 = at3 .before .before in
+    let at5 = at4 .before .before .before .before .before .before in
+    let a = at5 .args in
+    let room = rooms.told-is (a .board .now) (a .starts .now) (a .count) _ (so (at3 .size .given .1) (at4 .room-for .ensures)) in
+    sym (ap (λ (x : Checked (List ℕ × List Float)). writtenLeft x (a .board .now) (a .starts .now)) (edits.bad-record (a .board .now) (a .starts .now) (a .count) (a .place) (a .bytes .now) (room .0) (at2 .if1 .left) _ (edits.not-alone (a .bytes .now) _ (so (c .before .number2 .given .1) (at1 .read-alone .ensures)))))
 
 same-length-7 : tie.Need-same-length-7
 same-length-7 c = search needs
@@ -109,17 +132,26 @@ same-length-8 c = search needs
 
 returns-4 : tie.Need-returns-4
 returns-4 c =
-    let room = rooms.told-is (c .before .before .before .before .before .before .before .before .before .before .before .before .before .before .before .before .before .before .before .before .before .before .before .args .board .now) (c .before .before .before .before .before .before .before .before .before .before .before .before .before .before .before .before .before .before .before .before .before .before .before .args .starts .now) (c .before .before .before .before .before .before .before .before .before .before .before .before .before .before .before .before .before .before .before .before .before .before .before .args .count) _ (so (c .before .before .before .before .before .before .before .before .before .before .before .before .before .before .before .size .given .1) (c .before .before .before .before .before .before .before .before .before .before .before .before .before .before .before .before .before .room-for .ensures)) in
-    let found = edits.is-alone (c .before .before .before .before .before .before .before .before .before .before .before .before .before .before .before .before .before .before .before .before .before .before .before .args .bytes .now) _ (so (c .before .before .before .before .before .before .before .before .before .before .object .given .1) (c .before .before .before .before .before .before .before .before .before .before .before .before .read-alone .ensures)) in
-    let b = c .before .before .before .before .before .before .before .before .before .before .before .before .before .before .before .before .before .before .before .before .before .before .before .args .board .now in
-    let ts = c .before .before .before .before .before .before .before .before .before .before .before .before .before .before .before .before .before .before .before .before .before .before .before .args .starts .now in
-    let own = c .before .before .before .before .before .before .own .ensures ∙ edits.own-is (c .before .before .before .before .before .before .before .before .before .before .before .before .before .before .before .before .before .before .before .before .before .before .before .args .bytes .now) _ found in
+    let at1 = c .before .before .before .before .before in
+    let at2 = at1 .before in
+    let at3 = at2 .before .before .before .before in
+    let at4 = at3 .before .before in
+    let at5 = at4 .before in
+    let at6 = at5 .before .before in
+    let at7 = at6 .before .before in
+    let at8 = at7 .before .before .before .before .before .before in
+    let a = at8 .args in
+    let room = rooms.told-is (a .board .now) (a .starts .now) (a .count) _ (so (at6 .size .given .1) (at7 .room-for .ensures)) in
+    let found = edits.is-alone (a .bytes .now) _ (so (at3 .object .given .1) (at4 .read-alone .ensures)) in
+    let b = a .board .now in
+    let ts = a .starts .now in
+    let own = at2 .own .ensures ∙ edits.own-is (a .bytes .now) _ found in
     let start = ap (λ (h : HitObject). h .«start_time») (found .same) in
-    let same = edits.same-put (c .before .before .before .before .before .before .before .before .before .before .before .before .before .before .before .before .before .before .before .before .before .before .before .args .place) b ts (edits.size-is (c .before .before .before .before .before .before .before .before .before .before .before .before .before .before .before .size .given .0 .0) (c .before .before .before .before .before .before .before .before .before .before .before .before .before .before .before .before .before .before .before .before .before .before .before .args .count) b ts (room .1)) own start in
-    ap (λ (r : Written). (r, c .before .before .before .before .before .put-at .last .0, c .before .before .before .before .before .put-at .last .1 .0)) (c .written .ensures)
-    ∙ ap (λ (z : Put × List ℕ × List Float). (writtenOf (z .0), z .1, z .2)) (c .before .before .before .before .before .put-at .ensures)
-    ∙ edits.written-left (putAt (c .before .before .before .before .before .before .before .before .before .before .before .before .before .before .before .size .given .0 .0) (c .before .before .before .before .before .before .before .before .before .before .before .before .before .before .before .before .before .before .before .before .before .before .before .args .place) (c .before .before .before .before .before .before .own .result) (c .before .before .before .before .before .before .before .before .before .before .object .given .0 .0 .«start_time») b ts) b ts
-    ∙ ap (λ (x : Checked (List ℕ × List Float)). writtenLeft x (c .before .before .before .before .before .before .before .before .before .before .before .before .before .before .before .before .before .before .before .before .before .before .before .args .board .now) (c .before .before .before .before .before .before .before .before .before .before .before .before .before .before .before .before .before .before .before .before .before .before .before .args .starts .now)) (same ∙ sym (edits.puts (c .before .before .before .before .before .before .before .before .before .before .before .before .before .before .before .before .before .before .before .before .before .before .before .args .board .now) (c .before .before .before .before .before .before .before .before .before .before .before .before .before .before .before .before .before .before .before .before .before .before .before .args .starts .now) (c .before .before .before .before .before .before .before .before .before .before .before .before .before .before .before .before .before .before .before .before .before .before .before .args .count) (c .before .before .before .before .before .before .before .before .before .before .before .before .before .before .before .before .before .before .before .before .before .before .before .args .place) (c .before .before .before .before .before .before .before .before .before .before .before .before .before .before .before .before .before .before .before .before .before .before .before .args .bytes .now) (room .0) (c .before .before .before .before .before .before .before .before .before .before .before .before .before .if1 .left) (found .found) (found .read)))
+    let same = edits.same-put (a .place) b ts (edits.size-is (at6 .size .given .0 .0) (a .count) b ts (room .1)) own start in
+    ap (λ (r : Written). (r, at1 .put-at .last .0, at1 .put-at .last .1 .0)) (c .written .ensures)
+    ∙ ap (λ (z : Put × List ℕ × List Float). (writtenOf (z .0), z .1, z .2)) (at1 .put-at .ensures)
+    ∙ edits.written-left (putAt (at6 .size .given .0 .0) (a .place) (at2 .own .result) (at3 .object .given .0 .0 .«start_time») b ts) b ts
+    ∙ ap (λ (x : Checked (List ℕ × List Float)). writtenLeft x (a .board .now) (a .starts .now)) (same ∙ sym (edits.puts (a .board .now) (a .starts .now) (a .count) (a .place) (a .bytes .now) (room .0) (at5 .if1 .left) (found .found) (found .read)))
 
 pub edit-spec : {M : Type 1} → statement M
 edit-spec =

@@ -36,24 +36,38 @@ enum-known-item c = search needs
 
 returns-3 : tie.Need-returns-3
 returns-3 c =
-    let mark : c .before .before .before .before .before .word-at .result ≡ wordAt (c .before .before .before .before .before .before .before .before .before .args .r .now) 0 2 = c .before .before .before .before .before .word-at .ensures .0 in
-    let found = so (c .before .before .item .given .1) (c .before .before .before .before .read-object .ensures) ∙ ap (λ (m : ℕ). readOf (objectOf (c .before .before .before .before .before .before .before .before .before .args .r .now) m)) mark in
-    sym (ap aloneOf (alones.longer (c .before .before .before .before .before .before .before .before .before .args .r .now) (c .before .before .before .before .before .before .if2 .left) _ _ found (c .if3 .taken)))
+    let at1 = c .before .before in
+    let at2 = at1 .before .before in
+    let at3 = at2 .before in
+    let at4 = at3 .before in
+    let at5 = at4 .before .before .before in
+    let mark : at3 .word-at .result ≡ wordAt (at5 .args .r .now) 0 2 = at3 .word-at .ensures .0 in
+    let found = so (at1 .item .given .1) (at2 .read-object .ensures) ∙ ap (λ (m : ℕ). readOf (objectOf (at5 .args .r .now) m)) mark in
+    sym (ap aloneOf (alones.longer (at5 .args .r .now) (at4 .if2 .left) _ _ found (c .if3 .taken)))
 
 object-only-requires : tie.Need-object-only-requires
 object-only-requires c κs = search needs
 
 returns-4 : tie.Need-returns-4
 returns-4 c =
-    let mark : c .before .before .before .before .word-at .result ≡ wordAt (c .before .before .before .before .before .before .before .before .args .r .now) 0 2 = c .before .before .before .before .word-at .ensures .0 in
-    let found = so (c .before .number .given .1) (c .before .before .before .read-object .ensures) ∙ ap (λ (m : ℕ). readOf (objectOf (c .before .before .before .before .before .before .before .before .args .r .now) m)) mark in
-    sym (ap aloneOf (alones.not-read (c .before .before .before .before .before .before .before .before .args .r .now) (c .before .before .before .before .before .if2 .left) _ found))
+    let at1 = c .before .before .before in
+    let at2 = at1 .before in
+    let at3 = at2 .before in
+    let at4 = at3 .before .before .before in
+    let mark : at2 .word-at .result ≡ wordAt (at4 .args .r .now) 0 2 = at2 .word-at .ensures .0 in
+    let found = so (c .before .number .given .1) (at1 .read-object .ensures) ∙ ap (λ (m : ℕ). readOf (objectOf (at4 .args .r .now) m)) mark in
+    sym (ap aloneOf (alones.not-read (at4 .args .r .now) (at3 .if2 .left) _ found))
 
 returns-5 : tie.Need-returns-5
 returns-5 c =
-    let mark : c .before .before .before .before .before .before .word-at .result ≡ wordAt (c .before .before .before .before .before .before .before .before .before .before .args .r .now) 0 2 = c .before .before .before .before .before .before .word-at .ensures .0 in
-    let found = so (c .before .before .before .item .given .1) (c .before .before .before .before .before .read-object .ensures) ∙ ap (λ (m : ℕ). readOf (objectOf (c .before .before .before .before .before .before .before .before .before .before .args .r .now) m)) mark in
-    c .object-only .ensures ∙ alones.ends (c .before .before .before .before .before .before .before .before .before .before .args .r .now) (c .before .before .before .before .before .before .before .if2 .left) _ _ found (c .before .if3 .left)
+    let at1 = c .before .before .before in
+    let at2 = at1 .before .before in
+    let at3 = at2 .before in
+    let at4 = at3 .before in
+    let at5 = at4 .before .before .before in
+    let mark : at3 .word-at .result ≡ wordAt (at5 .args .r .now) 0 2 = at3 .word-at .ensures .0 in
+    let found = so (at1 .item .given .1) (at2 .read-object .ensures) ∙ ap (λ (m : ℕ). readOf (objectOf (at5 .args .r .now) m)) mark in
+    c .object-only .ensures ∙ alones.ends (at5 .args .r .now) (at4 .if2 .left) _ _ found (c .before .if3 .left)
 
 pub read-alone-spec : {M : Type 1} → statement M
 read-alone-spec =

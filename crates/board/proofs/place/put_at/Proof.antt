@@ -30,7 +30,10 @@ same-length c = search needs
 
 returns : tie.Need-returns
 returns c =
-    puts.stopped (c .before .before .before .before .before .before .before .before .before .before .args .size) (c .before .before .before .before .before .before .before .before .before .before .args .place) (c .before .before .before .before .before .before .before .before .before .before .args .entry) (c .before .before .before .before .before .before .before .before .before .before .args .start) (c .before .before .before .before .before .before .before .before .before .before .args .board .now) (c .before .before .before .before .before .before .before .before .before .before .args .starts .now) _ _ (so (c .before .number .given .1) (c .before .before .before .before .before .climb .ensures .0)) (c .before .before .before .before .before .climb .ensures .1)
+    let at1 = c .before .before .before .before .before in
+    let at2 = at1 .before .before .before .before .before in
+    let a = at2 .args in
+    puts.stopped (a .size) (a .place) (a .entry) (a .start) (a .board .now) (a .starts .now) _ _ (so (c .before .number .given .1) (at1 .climb .ensures .0)) (at1 .climb .ensures .1)
 
 same-length-2 : tie.Need-same-length-2
 same-length-2 c = search needs
@@ -40,7 +43,10 @@ same-length-3 c = search needs
 
 returns-2 : tie.Need-returns-2
 returns-2 c =
-    puts.stored (c .before .before .before .before .before .before .before .before .before .args .size) (c .before .before .before .before .before .before .before .before .before .args .place) (c .before .before .before .before .before .before .before .before .before .args .entry) (c .before .before .before .before .before .before .before .before .before .args .start) (c .before .before .before .before .before .before .before .before .before .args .board .now) (c .before .before .before .before .before .before .before .before .before .args .starts .now) _ (so (c .enum-told .given .1) (c .before .before .before .before .climb .ensures .0)) (c .before .before .before .before .climb .ensures .1)
+    let at1 = c .before .before .before .before in
+    let at2 = at1 .before .before .before .before .before in
+    let a = at2 .args in
+    puts.stored (a .size) (a .place) (a .entry) (a .start) (a .board .now) (a .starts .now) _ (so (c .enum-told .given .1) (at1 .climb .ensures .0)) (at1 .climb .ensures .1)
 
 pub put-at-spec : {M : Type 1} → statement M
 put-at-spec =

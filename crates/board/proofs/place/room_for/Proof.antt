@@ -17,7 +17,8 @@ use Rattle.tree.proofs.size_of.Reads as size-of-reads
 
 returns : tie.Need-returns
 returns c =
-    sym (ap (roomOf (c .before .before .before .args .count)) (rooms.many (c .before .before .before .args .board .now) (c .before .before .before .args .starts .now) (c .before .before .before .args .count) (c .if1 .taken)))
+    let at1 = c .before .before .before in
+    sym (ap (roomOf (at1 .args .count)) (rooms.many (at1 .args .board .now) (at1 .args .starts .now) (at1 .args .count) (c .if1 .taken)))
 
 size-of-requires : tie.Need-size-of-requires
 size-of-requires c κs = search needs
@@ -27,20 +28,32 @@ mul-if2 c = search needs
 
 returns-2 : tie.Need-returns-2
 returns-2 c =
-    let cap : c .before .before .size-of .result .cap ≡ capOf (c .before .before .before .before .before .before .args .count) = c .before .before .size-of .ensures .1 in
-    sym (ap (roomOf (c .before .before .before .before .before .before .args .count)) (rooms.few-words (c .before .before .before .before .before .before .args .board .now) (c .before .before .before .before .before .before .args .starts .now) (c .before .before .before .before .before .before .args .count) (c .before .before .before .if1 .left) (omega (arith, cap, c .if2 .taken))))
+    let at1 = c .before .before in
+    let at2 = at1 .before in
+    let at3 = at2 .before .before .before in
+    let a = at3 .args in
+    let cap : at1 .size-of .result .cap ≡ capOf (a .count) = at1 .size-of .ensures .1 in
+    sym (ap (roomOf (a .count)) (rooms.few-words (a .board .now) (a .starts .now) (a .count) (at2 .if1 .left) (omega (arith, cap, c .if2 .taken))))
 
 returns-3 : tie.Need-returns-3
 returns-3 c =
-    let cap : c .before .before .before .size-of .result .cap ≡ capOf (c .before .before .before .before .before .before .before .args .count) = c .before .before .before .size-of .ensures .1 in
-    sym (ap (roomOf (c .before .before .before .before .before .before .before .args .count)) (rooms.few-numbers (c .before .before .before .before .before .before .before .args .board .now) (c .before .before .before .before .before .before .before .args .starts .now) (c .before .before .before .before .before .before .before .args .count) (c .before .before .before .before .if1 .left) (omega (arith, cap, c .before .if2 .left)) (c .if3 .taken)))
+    let at1 = c .before .before .before in
+    let at2 = at1 .before in
+    let at3 = at2 .before .before .before in
+    let a = at3 .args in
+    let cap : at1 .size-of .result .cap ≡ capOf (a .count) = at1 .size-of .ensures .1 in
+    sym (ap (roomOf (a .count)) (rooms.few-numbers (a .board .now) (a .starts .now) (a .count) (at2 .if1 .left) (omega (arith, cap, c .before .if2 .left)) (c .if3 .taken)))
 
 returns-4 : tie.Need-returns-4
 returns-4 c =
-    let cap : c .before .before .before .size-of .result .cap ≡ capOf (c .before .before .before .before .before .before .before .args .count) = c .before .before .before .size-of .ensures .1 in
-    let levels : c .before .before .before .size-of .result .levels ≡ levelsOf (c .before .before .before .before .before .before .before .args .count) = c .before .before .before .size-of .ensures .0 in
+    let at1 = c .before .before .before in
+    let at2 = at1 .before in
+    let at3 = at2 .before .before .before in
+    let a = at3 .args in
+    let cap : at1 .size-of .result .cap ≡ capOf (a .count) = at1 .size-of .ensures .1 in
+    let levels : at1 .size-of .result .levels ≡ levelsOf (a .count) = at1 .size-of .ensures .0 in
     ap₂ (λ (l c : ℕ). room.Is (record { levels = l; cap = c })) levels cap
-    ∙ sym (ap (roomOf (c .before .before .before .before .before .before .before .args .count)) (rooms.roomy (c .before .before .before .before .before .before .before .args .board .now) (c .before .before .before .before .before .before .before .args .starts .now) (c .before .before .before .before .before .before .before .args .count) (c .before .before .before .before .if1 .left) (omega (arith, cap, c .before .if2 .left)) (c .if3 .left)))
+    ∙ sym (ap (roomOf (a .count)) (rooms.roomy (a .board .now) (a .starts .now) (a .count) (at2 .if1 .left) (omega (arith, cap, c .before .if2 .left)) (c .if3 .left)))
 
 pub room-for-spec : {M : Type 1} → statement M
 room-for-spec = tie.close (tie.spec returns size-of-requires mul-if2 returns-2 returns-3 returns-4)

@@ -32,19 +32,25 @@ counts-in-requires : tie.Need-counts-in-requires
 counts-in-requires c κs = search needs
 
 score-attributes-requires : tie.Need-score-attributes-requires
-score-attributes-requires c κs = (
-  subst Bounded (sym (c .before .state-in .ensures)) (state-bounded (c .before .before .before .before .before .before .before .args .found .sum) (c .before .before .before .before .before .before .before .pre .2)),
-  subst (Counted 8192) (sym (c .counts-in .ensures)) (counts-bounded (c .before .before .before .before .before .before .before .args .found .sum) (c .before .before .before .before .before .before .before .pre .2)),
-  c .before .before .score-multiplier .ensures .1,
-)
+score-attributes-requires c κs =
+    let at1 = c .before .before in
+    let at2 = at1 .before .before .before .before .before in (
+      subst Bounded (sym (c .before .state-in .ensures)) (state-bounded (at2 .args .found .sum) (at2 .pre .2)),
+      subst (Counted 8192) (sym (c .counts-in .ensures)) (counts-bounded (at2 .args .found .sum) (at2 .pre .2)),
+      at1 .score-multiplier .ensures .1,
+    )
 
 returns : tie.Need-returns
 unfolding attributesFrom
 returns c =
-    let sum = c .before .before .before .before .before .before .before .before .args .found .sum in
-    let e = kept (c .before .before .before .before .drain-from .result) (omega arith) ∙ c .before .before .before .before .drain-from .ensures .0 in
-    let m = c .before .before .before .score-multiplier .ensures .0 ∙ ap (multiplierOf (c .before .before .before .before .before .before .before .before .args .settings) (sum .«object_count»)) e in
-    c .score-attributes .ensures ∙ readings.same-attributes (c .before .before .state-in .ensures) (c .before .counts-in .ensures) m
+    let at1 = c .before .before in
+    let at2 = at1 .before in
+    let at3 = at2 .before in
+    let at4 = at3 .before .before .before .before in
+    let sum = at4 .args .found .sum in
+    let e = kept (at3 .drain-from .result) (omega arith) ∙ at3 .drain-from .ensures .0 in
+    let m = at2 .score-multiplier .ensures .0 ∙ ap (multiplierOf (at4 .args .settings) (sum .«object_count»)) e in
+    c .score-attributes .ensures ∙ readings.same-attributes (at1 .state-in .ensures) (c .before .counts-in .ensures) m
 
 pub attributes-from-spec : {M : Type 1} → statement M
 attributes-from-spec =

@@ -20,12 +20,16 @@ has-bad-times-requires c κs = search needs
 returns-2 : tie.Need-returns-2
 unfolding argumentsBad
 returns-2 c =
-    simp (so (c .before .before .before .has-bad-settings .ensures) (c .before .before .if1 .left), so (c .before .has-bad-times .ensures) (c .if2 .taken))
+    let at1 = c .before .before in
+    let at2 = at1 .before in
+    simp (so (at2 .has-bad-settings .ensures) (at1 .if1 .left), so (c .before .has-bad-times .ensures) (c .if2 .taken))
 
 returns-3 : tie.Need-returns-3
 unfolding argumentsBad
 returns-3 c =
-    simp (so (c .before .before .before .has-bad-settings .ensures) (c .before .before .if1 .left), so (c .before .has-bad-times .ensures) (c .if2 .left))
+    let at1 = c .before .before in
+    let at2 = at1 .before in
+    simp (so (at2 .has-bad-settings .ensures) (at1 .if1 .left), so (c .before .has-bad-times .ensures) (c .if2 .left))
 
 pub has-bad-arguments-spec : {M : Type 1} → statement M
 has-bad-arguments-spec =

@@ -19,7 +19,9 @@ is-bad-setting-requires-2 c κs = search needs
 returns-2 : tie.Need-returns-2
 unfolding settingsBad
 returns-2 c =
-    simp (so (c .before .before .before .is-bad-setting .ensures) (c .before .before .if1 .left), so (c .before .is-bad-setting2 .ensures) (c .if2 .taken))
+    let at1 = c .before .before in
+    let at2 = at1 .before in
+    simp (so (at2 .is-bad-setting .ensures) (at1 .if1 .left), so (c .before .is-bad-setting2 .ensures) (c .if2 .taken))
 
 is-bad-setting-requires-3 : tie.Need-is-bad-setting-requires-3
 is-bad-setting-requires-3 c κs = search needs
@@ -27,7 +29,10 @@ is-bad-setting-requires-3 c κs = search needs
 returns-3 : tie.Need-returns-3
 unfolding settingsBad
 returns-3 c =
-    simp (so (c .before .before .before .before .is-bad-setting .ensures) (c .before .before .before .if1 .left), so (c .before .before .is-bad-setting2 .ensures) (c .before .if2 .left)) (c .is-bad-setting3 .ensures)
+    let at1 = c .before .before in
+    let at2 = at1 .before in
+    let at3 = at2 .before in
+    simp (so (at3 .is-bad-setting .ensures) (at2 .if1 .left), so (at1 .is-bad-setting2 .ensures) (c .before .if2 .left)) (c .is-bad-setting3 .ensures)
 
 pub has-bad-settings-spec : {M : Type 1} → statement M
 has-bad-settings-spec =

@@ -32,9 +32,11 @@ is-bad-time-requires c κs = search needs
 
 returns : tie.Need-returns Inv-loop μ-loop
 returns c =
-    let l = c .before .before .before .before .before .before .args .times .now in
-    let i = c .before .before .before .before .loop .i in
-    sym (sym (c .before .before .before .before .loop .inv .1) ∙ times-at l i (omega arith) ∙ ap (λ (t : Bool). t || timesBad (drop (i + 1) l)) (so (c .before .is-bad-time .ensures) (c .if1 .taken)))
+    let at1 = c .before .before .before .before in
+    let at2 = at1 .before .before in
+    let l = at2 .args .times .now in
+    let i = at1 .loop .i in
+    sym (sym (at1 .loop .inv .1) ∙ times-at l i (omega arith) ∙ ap (λ (t : Bool). t || timesBad (drop (i + 1) l)) (so (c .before .is-bad-time .ensures) (c .if1 .taken)))
 
 add-i : tie.Need-add-i Inv-loop μ-loop
 add-i c = omega arith
@@ -44,10 +46,12 @@ loop-less c = omega arith
 
 loop-again : tie.Need-loop-again Inv-loop μ-loop
 loop-again c =
-    let l = c .before .before .before .before .before .before .args .times .now in
-    let i = c .before .before .before .before .loop .i in (
+    let at1 = c .before .before .before .before in
+    let at2 = at1 .before .before in
+    let l = at2 .args .times .now in
+    let i = at1 .loop .i in (
       omega arith,
-      sym (times-at l i (omega arith) ∙ ap (λ (t : Bool). t || timesBad (drop (i + 1) l)) (so (c .before .is-bad-time .ensures) (c .if1 .left))) ∙ c .before .before .before .before .loop .inv .1,
+      sym (times-at l i (omega arith) ∙ ap (λ (t : Bool). t || timesBad (drop (i + 1) l)) (so (c .before .is-bad-time .ensures) (c .if1 .left))) ∙ at1 .loop .inv .1,
     )
 
 returns-2 : tie.Need-returns-2 Inv-loop μ-loop

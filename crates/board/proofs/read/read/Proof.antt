@@ -15,7 +15,9 @@ use Rattle.scoring.proofs.play_score.has_bad_mods.Reads as has-bad-mods-reads
 
 returns : tie.Need-returns
 returns c =
-    sym (ap givenAnswer (readings.many-breaks (c .before .before .before .before .args .board .now) (c .before .before .before .before .args .starts .now) (c .before .before .before .before .args .count) (c .before .before .before .before .args .settings) (c .before .before .before .before .args .breaks .now) (c .before .before .before .before .args .play) (c .if1 .taken)))
+    let at1 = c .before .before .before .before in
+    let a = at1 .args in
+    sym (ap givenAnswer (readings.many-breaks (a .board .now) (a .starts .now) (a .count) (a .settings) (a .breaks .now) (a .play) (c .if1 .taken)))
 
 room-for-requires : tie.Need-room-for-requires
 room-for-requires c κs = search needs
@@ -31,30 +33,61 @@ has-bad-arguments-requires c κs = search needs
 
 returns-2 : tie.Need-returns-2
 returns-2 c =
-    let room = rooms.told-is (c .before .before .before .before .before .before .before .before .before .before .args .board .now) (c .before .before .before .before .before .before .before .before .before .before .args .starts .now) (c .before .before .before .before .before .before .before .before .before .before .args .count) _ (so (c .before .before .before .size .given .1) (c .before .before .before .before .before .room-for .ensures)) in
-    sym (ap givenAnswer (readings.bad-arguments (c .before .before .before .before .before .before .before .before .before .before .args .board .now) (c .before .before .before .before .before .before .before .before .before .before .args .starts .now) (c .before .before .before .before .before .before .before .before .before .before .args .count) (c .before .before .before .before .before .before .before .before .before .before .args .settings) (c .before .before .before .before .before .before .before .before .before .before .args .breaks .now) (c .before .before .before .before .before .before .before .before .before .before .args .play) (c .before .before .before .before .before .before .if1 .left) (room .0) (so (c .before .has-bad-arguments .ensures) (c .if2 .taken))))
+    let at1 = c .before .before .before in
+    let at2 = at1 .before .before in
+    let at3 = at2 .before in
+    let at4 = at3 .before .before .before .before in
+    let a = at4 .args in
+    let room = rooms.told-is (a .board .now) (a .starts .now) (a .count) _ (so (at1 .size .given .1) (at2 .room-for .ensures)) in
+    sym (ap givenAnswer (readings.bad-arguments (a .board .now) (a .starts .now) (a .count) (a .settings) (a .breaks .now) (a .play) (at3 .if1 .left) (room .0) (so (c .before .has-bad-arguments .ensures) (c .if2 .taken))))
 
 has-bad-mods-requires : tie.Need-has-bad-mods-requires
 has-bad-mods-requires c κs = search needs
 
 returns-3 : tie.Need-returns-3
 returns-3 c =
-    let room = rooms.told-is (c .before .before .before .before .before .before .before .before .before .before .before .before .before .args .board .now) (c .before .before .before .before .before .before .before .before .before .before .before .before .before .args .starts .now) (c .before .before .before .before .before .before .before .before .before .before .before .before .before .args .count) _ (so (c .before .before .before .before .before .before .size .given .1) (c .before .before .before .before .before .before .before .before .room-for .ensures)) in
-    sym (ap givenAnswer (readings.bad-mods (c .before .before .before .before .before .before .before .before .before .before .before .before .before .args .board .now) (c .before .before .before .before .before .before .before .before .before .before .before .before .before .args .starts .now) (c .before .before .before .before .before .before .before .before .before .before .before .before .before .args .count) (c .before .before .before .before .before .before .before .before .before .before .before .before .before .args .settings) (c .before .before .before .before .before .before .before .before .before .before .before .before .before .args .breaks .now) (c .before .before .before .before .before .before .before .before .before .before .before .before .before .args .play) (c .before .before .before .before .before .before .before .before .before .if1 .left) (room .0) (so (c .before .before .before .before .has-bad-arguments .ensures) (c .before .before .before .if2 .left)) (so (c .before .has-bad-mods .ensures) (c .if3 .taken))))
+    let at1 = c .before .before .before in
+    let at2 = at1 .before in
+    let at3 = at2 .before .before in
+    let at4 = at3 .before .before in
+    let at5 = at4 .before in
+    let at6 = at5 .before .before .before .before in
+    let a = at6 .args in
+    let room = rooms.told-is (a .board .now) (a .starts .now) (a .count) _ (so (at3 .size .given .1) (at4 .room-for .ensures)) in
+    sym (ap givenAnswer (readings.bad-mods (a .board .now) (a .starts .now) (a .count) (a .settings) (a .breaks .now) (a .play) (at5 .if1 .left) (room .0) (so (at2 .has-bad-arguments .ensures) (at1 .if2 .left)) (so (c .before .has-bad-mods .ensures) (c .if3 .taken))))
 
 read-in-requires : tie.Need-read-in-requires
 read-in-requires c κs =
-    let room = rooms.told-is (c .before .before .before .before .before .before .before .before .before .before .before .before .before .args .board .now) (c .before .before .before .before .before .before .before .before .before .before .before .before .before .args .starts .now) (c .before .before .before .before .before .before .before .before .before .before .before .before .before .args .count) _ (so (c .before .before .before .before .before .before .size .given .1) (c .before .before .before .before .before .before .before .before .room-for .ensures)) in
-    (room .1, c .before .before .before .before .before .before .before .before .before .if1 .left, readings.settings-pass (c .before .before .before .before .before .before .before .before .before .before .before .before .before .args .settings) (c .before .before .before .before .before .before .before .before .before .before .before .before .before .args .breaks .now) (so (c .before .before .before .before .has-bad-arguments .ensures) (c .before .before .before .if2 .left)))
+    let at1 = c .before .before .before in
+    let at2 = at1 .before in
+    let at3 = at2 .before .before in
+    let at4 = at3 .before .before in
+    let at5 = at4 .before in
+    let at6 = at5 .before .before .before .before in
+    let a = at6 .args in
+    let room = rooms.told-is (a .board .now) (a .starts .now) (a .count) _ (so (at3 .size .given .1) (at4 .room-for .ensures)) in
+    (room .1, at5 .if1 .left, readings.settings-pass (a .settings) (a .breaks .now) (so (at2 .has-bad-arguments .ensures) (at1 .if2 .left)))
 
 returns-4 : tie.Need-returns-4
 returns-4 c =
-    sym (ap givenAnswer (readings.no-room (c .before .before .before .before .before .before .before .before .args .board .now) (c .before .before .before .before .before .before .before .before .args .starts .now) (c .before .before .before .before .before .before .before .before .args .count) (c .before .before .before .before .before .before .before .before .args .settings) (c .before .before .before .before .before .before .before .before .args .breaks .now) (c .before .before .before .before .before .before .before .before .args .play) (c .before .before .before .before .if1 .left) _ (rooms.told-refused (c .before .before .before .before .before .before .before .before .args .board .now) (c .before .before .before .before .before .before .before .before .args .starts .now) (c .before .before .before .before .before .before .before .before .args .count) _ (so (c .before .number .given .1) (c .before .before .before .room-for .ensures)))))
+    let at1 = c .before .before .before in
+    let at2 = at1 .before in
+    let at3 = at2 .before .before .before .before in
+    let a = at3 .args in
+    sym (ap givenAnswer (readings.no-room (a .board .now) (a .starts .now) (a .count) (a .settings) (a .breaks .now) (a .play) (at2 .if1 .left) _ (rooms.told-refused (a .board .now) (a .starts .now) (a .count) _ (so (c .before .number .given .1) (at1 .room-for .ensures)))))
 
 returns-5 : tie.Need-returns-5
 returns-5 c =
-    let room = rooms.told-is (c .before .before .before .before .before .before .before .before .before .before .before .before .before .before .args .board .now) (c .before .before .before .before .before .before .before .before .before .before .before .before .before .before .args .starts .now) (c .before .before .before .before .before .before .before .before .before .before .before .before .before .before .args .count) _ (so (c .before .before .before .before .before .before .before .size .given .1) (c .before .before .before .before .before .before .before .before .before .room-for .ensures)) in
-    c .read-in .ensures ∙ sym (ap givenAnswer (readings.reads (c .before .before .before .before .before .before .before .before .before .before .before .before .before .before .args .board .now) (c .before .before .before .before .before .before .before .before .before .before .before .before .before .before .args .starts .now) (c .before .before .before .before .before .before .before .before .before .before .before .before .before .before .args .count) (c .before .before .before .before .before .before .before .before .before .before .before .before .before .before .args .settings) (c .before .before .before .before .before .before .before .before .before .before .before .before .before .before .args .breaks .now) (c .before .before .before .before .before .before .before .before .before .before .before .before .before .before .args .play) (c .before .before .before .before .before .before .before .before .before .before .if1 .left) (room .0) (so (c .before .before .before .before .before .has-bad-arguments .ensures) (c .before .before .before .before .if2 .left)) (so (c .before .before .has-bad-mods .ensures) (c .before .if3 .left))))
+    let at1 = c .before .before in
+    let at2 = at1 .before .before in
+    let at3 = at2 .before in
+    let at4 = at3 .before .before in
+    let at5 = at4 .before .before in
+    let at6 = at5 .before in
+    let at7 = at6 .before .before .before .before in
+    let a = at7 .args in
+    let room = rooms.told-is (a .board .now) (a .starts .now) (a .count) _ (so (at4 .size .given .1) (at5 .room-for .ensures)) in
+    c .read-in .ensures ∙ sym (ap givenAnswer (readings.reads (a .board .now) (a .starts .now) (a .count) (a .settings) (a .breaks .now) (a .play) (at6 .if1 .left) (room .0) (so (at3 .has-bad-arguments .ensures) (at2 .if2 .left)) (so (at1 .has-bad-mods .ensures) (c .before .if3 .left))))
 
 pub read-spec : {M : Type 1} → statement M
 read-spec =

@@ -35,9 +35,13 @@ enum-known-found c = search needs
 
 attributes-from-requires : tie.Need-attributes-from-requires
 attributes-from-requires c κs =
-    let f = searches.told-found (c .before .before .before .before .before .before .before .before .before .args .board .now) (c .before .before .before .before .before .before .before .before .before .args .starts .now) (c .before .before .before .before .before .before .before .before .before .args .count) (c .before .before .before .before .least .result) _ (so (c .before .found .given .1) (c .before .before .before .find .ensures)) in
-    let k = searches.found-in (c .before .before .before .before .before .before .before .before .before .args .board .now) (c .before .before .before .before .before .before .before .before .before .args .starts .now) (c .before .before .before .before .before .before .before .before .before .args .count) (c .before .before .before .before .least .result) _ f in
-    (c .before .before .before .before .before .before .before .before .before .pre .1, c .before .before .before .before .before .before .before .before .before .pre .2, k .0, k .1)
+    let at1 = c .before .before .before in
+    let at2 = at1 .before in
+    let at3 = at2 .before .before .before .before .before in
+    let a = at3 .args in
+    let f = searches.told-found (a .board .now) (a .starts .now) (a .count) (at2 .least .result) _ (so (c .before .found .given .1) (at1 .find .ensures)) in
+    let k = searches.found-in (a .board .now) (a .starts .now) (a .count) (at2 .least .result) _ f in
+    (at3 .pre .1, at3 .pre .2, k .0, k .1)
 
 score-on-requires : tie.Need-score-on-requires
 score-on-requires c κs = search needs
@@ -47,20 +51,30 @@ given-requires c κs = search needs
 
 returns : tie.Need-returns
 returns c =
-    let p : c .before .before .before .before .least .result ≡ min (c .before .before .before .before .before .before .before .before .before .args .play .«passed_objects») (c .before .before .before .before .before .before .before .before .before .args .count) = c .before .before .before .before .least .ensures in
-    let at = ap (λ (k : ℕ). foundOf (c .before .before .before .before .before .before .before .before .before .args .board .now) (c .before .before .before .before .before .before .before .before .before .args .starts .now) (c .before .before .before .before .before .before .before .before .before .args .count) k) p in
-    let f = searches.told-none (c .before .before .before .before .before .before .before .before .before .args .board .now) (c .before .before .before .before .before .before .before .before .before .args .starts .now) (c .before .before .before .before .before .before .before .before .before .args .count) (c .before .before .before .before .least .result) _ (so (c .before .number .given .1) (c .before .before .before .find .ensures)) in
-    sym (ap givenAnswer (readings.not-found (c .before .before .before .before .before .before .before .before .before .args .board .now) (c .before .before .before .before .before .before .before .before .before .args .starts .now) (c .before .before .before .before .before .before .before .before .before .args .count) (c .before .before .before .before .before .before .before .before .before .args .settings) (c .before .before .before .before .before .before .before .before .before .args .breaks .now) (c .before .before .before .before .before .before .before .before .before .args .play) _ (sym at ∙ f)))
+    let at1 = c .before .before .before in
+    let at2 = at1 .before in
+    let at3 = at2 .before .before .before .before .before in
+    let a = at3 .args in
+    let p : at2 .least .result ≡ min (a .play .«passed_objects») (a .count) = at2 .least .ensures in
+    let at = ap (λ (k : ℕ). foundOf (a .board .now) (a .starts .now) (a .count) k) p in
+    let f = searches.told-none (a .board .now) (a .starts .now) (a .count) (at2 .least .result) _ (so (c .before .number .given .1) (at1 .find .ensures)) in
+    sym (ap givenAnswer (readings.not-found (a .board .now) (a .starts .now) (a .count) (a .settings) (a .breaks .now) (a .play) _ (sym at ∙ f)))
 
 returns-2 : tie.Need-returns-2
 returns-2 c =
-    let p : c .before .before .before .before .before .before .before .least .result ≡ min (c .before .before .before .before .before .before .before .before .before .before .before .before .args .play .«passed_objects») (c .before .before .before .before .before .before .before .before .before .before .before .before .args .count) = c .before .before .before .before .before .before .before .least .ensures in
-    let at = ap (λ (k : ℕ). foundOf (c .before .before .before .before .before .before .before .before .before .before .before .before .args .board .now) (c .before .before .before .before .before .before .before .before .before .before .before .before .args .starts .now) (c .before .before .before .before .before .before .before .before .before .before .before .before .args .count) k) p in
-    let f = searches.told-found (c .before .before .before .before .before .before .before .before .before .before .before .before .args .board .now) (c .before .before .before .before .before .before .before .before .before .before .before .before .args .starts .now) (c .before .before .before .before .before .before .before .before .before .before .before .before .args .count) (c .before .before .before .before .before .before .before .least .result) _ (so (c .before .before .before .before .found .given .1) (c .before .before .before .before .before .before .find .ensures)) in
+    let at1 = c .before .before in
+    let at2 = at1 .before .before in
+    let at3 = at2 .before .before in
+    let at4 = at3 .before in
+    let at5 = at4 .before .before .before .before .before in
+    let a = at5 .args in
+    let p : at4 .least .result ≡ min (a .play .«passed_objects») (a .count) = at4 .least .ensures in
+    let at = ap (λ (k : ℕ). foundOf (a .board .now) (a .starts .now) (a .count) k) p in
+    let f = searches.told-found (a .board .now) (a .starts .now) (a .count) (at4 .least .result) _ (so (at2 .found .given .1) (at3 .find .ensures)) in
     c .given .ensures
     ∙ ap givenOf (c .before .score-on .ensures)
-    ∙ ap (λ (a : ScoreAttributes). givenOf (scoredOf (playScore (c .before .before .before .before .before .before .before .before .before .before .before .before .args .play) a))) (c .before .before .attributes-from .ensures)
-    ∙ sym (ap givenAnswer (readings.found (c .before .before .before .before .before .before .before .before .before .before .before .before .args .board .now) (c .before .before .before .before .before .before .before .before .before .before .before .before .args .starts .now) (c .before .before .before .before .before .before .before .before .before .before .before .before .args .count) (c .before .before .before .before .before .before .before .before .before .before .before .before .args .settings) (c .before .before .before .before .before .before .before .before .before .before .before .before .args .breaks .now) (c .before .before .before .before .before .before .before .before .before .before .before .before .args .play) _ (sym at ∙ f)))
+    ∙ ap (λ (a : ScoreAttributes). givenOf (scoredOf (playScore (a .play) a))) (at1 .attributes-from .ensures)
+    ∙ sym (ap givenAnswer (readings.found (a .board .now) (a .starts .now) (a .count) (a .settings) (a .breaks .now) (a .play) _ (sym at ∙ f)))
 
 pub read-in-spec : {M : Type 1} → statement M
 read-in-spec =

@@ -21,14 +21,16 @@ use Rattle.tree.proofs.sum_of_first.Reads as sum-of-first-reads
 
 sum-of-first-requires : tie.Need-sum-of-first-requires
 sum-of-first-requires c κs =
-    let holds = c .before .before .pre .0 in
-    let places = levels-hold (c .before .before .args .count) (holds .few) in
-    let most = levels-most (c .before .before .args .count) in
+    let at1 = c .before .before in
+    let a = at1 .args in
+    let holds = at1 .pre .0 in
+    let places = levels-hold (a .count) (holds .few) in
+    let most = levels-most (a .count) in
     let cap = holds .cap in
     let levels = holds .levels in
     let words = holds .words in
-    let high : capOf (c .before .before .args .count) ≤ 8192 = pow-mono {i = levelsOf (c .before .before .args .count)} {j = 13} most in
-    (cap ∙ ap (λ (l : ℕ). 2 ^ l) (sym levels), omega (arith, levels, most), omega (arith, cap, high), omega (arith, cap, places, c .before .before .pre .1), omega (arith, cap, words))
+    let high : capOf (a .count) ≤ 8192 = pow-mono {i = levelsOf (a .count)} {j = 13} most in
+    (cap ∙ ap (λ (l : ℕ). 2 ^ l) (sym levels), omega (arith, levels, most), omega (arith, cap, high), omega (arith, cap, places, at1 .pre .1), omega (arith, cap, words))
 
 enum-known-number : tie.Need-enum-known-number
 enum-known-number c = search needs
@@ -47,34 +49,57 @@ enum-told c = search needs
 
 returns : tie.Need-returns
 returns c =
-    let levels = ap (λ (l : ℕ). walked (l + 1) (c .before .before .before .before .before .before .before .before .before .args .board .now) 1 (c .before .before .before .before .before .before .before .before .before .args .p) none) (c .before .before .before .before .before .before .before .before .before .pre .0 .levels) in
-    let sum = sym levels ∙ climbs.told-good _ _ (so (c .before .before .before .before .sum .given .1) (c .before .before .before .before .before .before .sum-of-first .ensures)) in
-    sym (ap searchOf (searches.starts-stop (c .before .before .before .before .before .before .before .before .before .args .board .now) (c .before .before .before .before .before .before .before .before .before .args .starts .now) (c .before .before .before .before .before .before .before .before .before .args .count) (c .before .before .before .before .before .before .before .before .before .args .p) _ sum (searches.bad-starts (c .before .before .before .before .before .before .before .before .before .args .starts .now) (c .before .before .before .before .before .before .before .before .before .args .count) (c .before .before .before .before .before .before .before .before .before .args .p) (so (c .enum-told .given .1) (c .before .before .find-starts .ensures)))))
+    let at1 = c .before .before in
+    let at2 = at1 .before .before in
+    let at3 = at2 .before .before in
+    let at4 = at3 .before .before .before in
+    let a = at4 .args in
+    let levels = ap (λ (l : ℕ). walked (l + 1) (a .board .now) 1 (a .p) none) (at4 .pre .0 .levels) in
+    let sum = sym levels ∙ climbs.told-good _ _ (so (at2 .sum .given .1) (at3 .sum-of-first .ensures)) in
+    sym (ap searchOf (searches.starts-stop (a .board .now) (a .starts .now) (a .count) (a .p) _ sum (searches.bad-starts (a .starts .now) (a .count) (a .p) (so (c .enum-told .given .1) (at1 .find-starts .ensures)))))
 
 is-unsound-requires : tie.Need-is-unsound-requires
 is-unsound-requires c κs =
-    let levels = ap (λ (l : ℕ). walked (l + 1) (c .before .before .before .before .before .before .before .before .before .before .args .board .now) 1 (c .before .before .before .before .before .before .before .before .before .before .args .p) none) (c .before .before .before .before .before .before .before .before .before .before .pre .0 .levels) in
-    let sum = sym levels ∙ climbs.told-good _ _ (so (c .before .before .before .before .before .sum .given .1) (c .before .before .before .before .before .before .before .sum-of-first .ensures)) in
-    searches.sum-in (levelsOf (c .before .before .before .before .before .before .before .before .before .before .args .count) + 1) (c .before .before .before .before .before .before .before .before .before .before .args .board .now) (c .before .before .before .before .before .before .before .before .before .before .args .p) _ sum
+    let at1 = c .before .before .before .before .before in
+    let at2 = at1 .before .before in
+    let at3 = at2 .before .before .before in
+    let levels = ap (λ (l : ℕ). walked (l + 1) (at3 .args .board .now) 1 (at3 .args .p) none) (at3 .pre .0 .levels) in
+    let sum = sym levels ∙ climbs.told-good _ _ (so (at1 .sum .given .1) (at2 .sum-of-first .ensures)) in
+    searches.sum-in (levelsOf (at3 .args .count) + 1) (at3 .args .board .now) (at3 .args .p) _ sum
 
 returns-2 : tie.Need-returns-2
 returns-2 c =
-    let levels = ap (λ (l : ℕ). walked (l + 1) (c .before .before .before .before .before .before .before .before .before .before .before .before .args .board .now) 1 (c .before .before .before .before .before .before .before .before .before .before .before .before .args .p) none) (c .before .before .before .before .before .before .before .before .before .before .before .before .pre .0 .levels) in
-    let sum = sym levels ∙ climbs.told-good _ _ (so (c .before .before .before .before .before .before .before .sum .given .1) (c .before .before .before .before .before .before .before .before .before .sum-of-first .ensures)) in
-    let starts = searches.good-starts (c .before .before .before .before .before .before .before .before .before .before .before .before .args .starts .now) (c .before .before .before .before .before .before .before .before .before .before .before .before .args .count) (c .before .before .before .before .before .before .before .before .before .before .before .before .args .p) _ (so (c .before .before .before .found .given .1) (c .before .before .before .before .before .find-starts .ensures)) in
-    sym (ap searchOf (searches.unsound-stop (c .before .before .before .before .before .before .before .before .before .before .before .before .args .board .now) (c .before .before .before .before .before .before .before .before .before .before .before .before .args .starts .now) (c .before .before .before .before .before .before .before .before .before .before .before .before .args .count) (c .before .before .before .before .before .before .before .before .before .before .before .before .args .p) _ sum _ starts (so (c .before .is-unsound .ensures) (c .if1 .taken))))
+    let at1 = c .before .before .before in
+    let at2 = at1 .before .before in
+    let at3 = at2 .before .before in
+    let at4 = at3 .before .before in
+    let at5 = at4 .before .before .before in
+    let a = at5 .args in
+    let levels = ap (λ (l : ℕ). walked (l + 1) (a .board .now) 1 (a .p) none) (at5 .pre .0 .levels) in
+    let sum = sym levels ∙ climbs.told-good _ _ (so (at3 .sum .given .1) (at4 .sum-of-first .ensures)) in
+    let starts = searches.good-starts (a .starts .now) (a .count) (a .p) _ (so (at1 .found .given .1) (at2 .find-starts .ensures)) in
+    sym (ap searchOf (searches.unsound-stop (a .board .now) (a .starts .now) (a .count) (a .p) _ sum _ starts (so (c .before .is-unsound .ensures) (c .if1 .taken))))
 
 returns-3 : tie.Need-returns-3
 returns-3 c =
-    let levels = ap (λ (l : ℕ). walked (l + 1) (c .before .before .before .before .before .before .args .board .now) 1 (c .before .before .before .before .before .before .args .p) none) (c .before .before .before .before .before .before .pre .0 .levels) in
-    sym (ap searchOf (searches.stops (c .before .before .before .before .before .before .args .board .now) (c .before .before .before .before .before .before .args .starts .now) (c .before .before .before .before .before .before .args .count) (c .before .before .before .before .before .before .args .p) _ (sym levels ∙ climbs.told-refused _ _ (so (c .before .number .given .1) (c .before .before .before .sum-of-first .ensures)))))
+    let at1 = c .before .before .before in
+    let at2 = at1 .before .before .before in
+    let a = at2 .args in
+    let levels = ap (λ (l : ℕ). walked (l + 1) (a .board .now) 1 (a .p) none) (at2 .pre .0 .levels) in
+    sym (ap searchOf (searches.stops (a .board .now) (a .starts .now) (a .count) (a .p) _ (sym levels ∙ climbs.told-refused _ _ (so (c .before .number .given .1) (at1 .sum-of-first .ensures)))))
 
 returns-4 : tie.Need-returns-4
 returns-4 c =
-    let levels = ap (λ (l : ℕ). walked (l + 1) (c .before .before .before .before .before .before .before .before .before .before .before .before .args .board .now) 1 (c .before .before .before .before .before .before .before .before .before .before .before .before .args .p) none) (c .before .before .before .before .before .before .before .before .before .before .before .before .pre .0 .levels) in
-    let sum = sym levels ∙ climbs.told-good _ _ (so (c .before .before .before .before .before .before .before .sum .given .1) (c .before .before .before .before .before .before .before .before .before .sum-of-first .ensures)) in
-    let starts = searches.good-starts (c .before .before .before .before .before .before .before .before .before .before .before .before .args .starts .now) (c .before .before .before .before .before .before .before .before .before .before .before .before .args .count) (c .before .before .before .before .before .before .before .before .before .before .before .before .args .p) _ (so (c .before .before .before .found .given .1) (c .before .before .before .before .before .find-starts .ensures)) in
-    sym (ap searchOf (searches.finds (c .before .before .before .before .before .before .before .before .before .before .before .before .args .board .now) (c .before .before .before .before .before .before .before .before .before .before .before .before .args .starts .now) (c .before .before .before .before .before .before .before .before .before .before .before .before .args .count) (c .before .before .before .before .before .before .before .before .before .before .before .before .args .p) _ sum _ starts (so (c .before .is-unsound .ensures) (c .if1 .left))))
+    let at1 = c .before .before .before in
+    let at2 = at1 .before .before in
+    let at3 = at2 .before .before in
+    let at4 = at3 .before .before in
+    let at5 = at4 .before .before .before in
+    let a = at5 .args in
+    let levels = ap (λ (l : ℕ). walked (l + 1) (a .board .now) 1 (a .p) none) (at5 .pre .0 .levels) in
+    let sum = sym levels ∙ climbs.told-good _ _ (so (at3 .sum .given .1) (at4 .sum-of-first .ensures)) in
+    let starts = searches.good-starts (a .starts .now) (a .count) (a .p) _ (so (at1 .found .given .1) (at2 .find-starts .ensures)) in
+    sym (ap searchOf (searches.finds (a .board .now) (a .starts .now) (a .count) (a .p) _ sum _ starts (so (c .before .is-unsound .ensures) (c .if1 .left))))
 
 pub find-spec : {M : Type 1} → statement M
 find-spec =

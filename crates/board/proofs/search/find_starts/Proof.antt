@@ -42,12 +42,20 @@ is-bad-time-requires-2 c κs = search needs
 returns-3 : tie.Need-returns-3
 unfolding startsIn _>>_ refuse_when_
 returns-3 c =
-    simp (ne-eqb _ _ (c .before .before .before .before .before .before .before .if1 .left), so (c .before .before .before .is-bad-time .ensures) (c .before .before .if2 .left), sym (c .before .before .before .before .before .last-place .ensures), so (c .before .is-bad-time2 .ensures) (c .if3 .taken))
+    let at1 = c .before .before in
+    let at2 = at1 .before in
+    let at3 = at2 .before .before in
+    let at4 = at3 .before .before in
+    simp (ne-eqb _ _ (at4 .if1 .left), so (at2 .is-bad-time .ensures) (at1 .if2 .left), sym (at3 .last-place .ensures), so (c .before .is-bad-time2 .ensures) (c .if3 .taken))
 
 returns-4 : tie.Need-returns-4
 unfolding startsIn _>>_ refuse_when_
 returns-4 c =
-    simp (ne-eqb _ _ (c .before .before .before .before .before .before .before .if1 .left), so (c .before .before .before .is-bad-time .ensures) (c .before .before .if2 .left), sym (c .before .before .before .before .before .last-place .ensures), so (c .before .is-bad-time2 .ensures) (c .if3 .left))
+    let at1 = c .before .before in
+    let at2 = at1 .before in
+    let at3 = at2 .before .before in
+    let at4 = at3 .before .before in
+    simp (ne-eqb _ _ (at4 .if1 .left), so (at2 .is-bad-time .ensures) (at1 .if2 .left), sym (at3 .last-place .ensures), so (c .before .is-bad-time2 .ensures) (c .if3 .left))
 
 pub find-starts-spec : {M : Type 1} → statement M
 find-starts-spec =

@@ -73,7 +73,7 @@ returns-2 c =
     let f = searches.told-found (a .board .now) (a .starts .now) (a .count) (at4 .least .result) _ (so (at2 .found .given .1) (at3 .find .ensures)) in
     c .given .ensures
     ∙ ap givenOf (c .before .score-on .ensures)
-    ∙ ap (λ (a : ScoreAttributes). givenOf (scoredOf (playScore (a .play) a))) (at1 .attributes-from .ensures)
+    ∙ ap (λ (x : ScoreAttributes). givenOf (scoredOf (playScore (a .play) x))) (at1 .attributes-from .ensures)
     ∙ sym (ap givenAnswer (readings.found (a .board .now) (a .starts .now) (a .count) (a .settings) (a .breaks .now) (a .play) _ (sym at ∙ f)))
 
 pub read-in-spec : {M : Type 1} → statement M

@@ -1,11 +1,11 @@
 // All values of many map files for the comparison with the Rust. The input is frames: a u32 length, little-endian, and a map file. For each it
 // prints the listing, and for each play the attributes of its passed objects, as `oracle trace` does.
-use libc::STDIN_FILENO;
+use frames::Frame;
 use libc::STDOUT_FILENO;
+use lines::put_attributes_line;
 use lines::put_play_line;
 use listing::Listed;
 use listing::list_file;
-use numbers::words::word_at;
 use records::file::Reader;
 use records::file::Step;
 use records::play::Play;
@@ -17,11 +17,6 @@ use scoring::score::MapScore;
 use scoring::score::score_map;
 use scoring::score::score_play;
 use scoring::score::score_play_at;
-use simulator::attributes::OsuDifficultyAttributes;
-use simulator::attributes::ScoreAttributes;
-use text::put_decimal;
-use text::put_float;
-use text::put_text;
 
 // Longer than any file or listing of the comparison.
 const FILE: usize = 262144;
@@ -33,46 +28,11 @@ fn print_text(text: &[u8]) {
     io::write_all(STDOUT_FILENO, text);
 }
 
-fn put_number(space: &mut [u8], at: usize, n: u64) -> usize {
-    let at = put_text(space, at, b" ");
-    put_decimal(space, at, n)
-}
-
-fn put_bits(space: &mut [u8], at: usize, x: f64) -> usize {
-    let at = put_text(space, at, b" ");
-    put_float(space, at, x)
-}
-
-fn put_counts(space: &mut [u8], at: usize, d: OsuDifficultyAttributes) -> usize {
-    let at = put_number(space, at, d.n_circles as u64);
-    let at = put_number(space, at, d.n_sliders as u64);
-    let at = put_number(space, at, d.n_spinners as u64);
-    let at = put_number(space, at, d.n_repeats as u64);
-    let at = put_number(space, at, d.n_ticks as u64);
-    put_text(space, at, b"\n")
-}
-
-fn put_attributes(space: &mut [u8], index: u64, a: ScoreAttributes) -> usize {
-    let at = put_text(space, 0, b"attrs");
-    let at = put_number(space, at, index);
-    let at = put_number(space, at, a.object_count);
-    let at = put_number(space, at, a.multiplier);
-    let at = put_number(space, at, a.legacy.accuracy_score);
-    let at = put_number(space, at, a.legacy.combo_score);
-    let at = put_bits(space, at, a.legacy.bonus_score_ratio);
-    let at = put_number(space, at, a.legacy.bonus_score.0);
-    let at = put_number(space, at, a.standardised_bonus_score.0);
-    let at = put_number(space, at, a.legacy.max_combo);
-    let at = put_bits(space, at, a.difficulty.nested_score_per_object);
-    let difficulty = a.difficulty;
-    put_counts(space, at, difficulty)
-}
-
 // All values of a play, as text.
 fn put_score(space: &mut [u8], index: u64, score: PlayScore) -> usize {
     let attributes = score.attributes;
     let estimates = score.estimates;
-    let at = put_attributes(space, index, attributes);
+    let at = put_attributes_line(space, 0, index, attributes);
     put_play_line(space, at, index, estimates)
 }
 
@@ -105,7 +65,7 @@ fn is_same(file: &[u8], index: u64, play: Play, score: PlayScore) -> bool {
 fn trace_score(file: &[u8], index: u64, play: Play, score: PlayScore) {
     let mut space = [0u8; LINES];
     let attributes = score.attributes;
-    let end = put_attributes(&mut space, index, attributes);
+    let end = put_attributes_line(&mut space, 0, index, attributes);
     frames::print_front(&space, end);
     if !is_same(file, index, play, score) {
         print_differ(index);
@@ -198,17 +158,17 @@ fn trace_front(space: &[u8], length: usize, listing: &mut [u8]) {
 
 // Reads one frame and traces it; false at the end of the input, or where a file is too long for the space.
 fn trace_frame(space: &mut [u8], listing: &mut [u8]) -> bool {
-    let mut head = [0u8; 4];
-    if io::read_full(STDIN_FILENO, &mut head) < 4 {
-        return false;
+    match frames::read_frame(space) {
+        Frame::Is(length) => {
+            trace_front(space, length, listing);
+            true
+        }
+        Frame::End => false,
+        Frame::Cut => {
+            print_text(b"the input ends inside a frame, or a file is too long\n");
+            false
+        }
     }
-    let length = word_at(&head, 0, 4) as usize;
-    if !frames::read_front(space, length) {
-        print_text(b"the input ends inside a frame, or a file is too long\n");
-        return false;
-    }
-    trace_front(space, length, listing);
-    true
 }
 
 // A proved loop has to end, and nothing says that an input does: it counts its turns down from a number that no run uses up.

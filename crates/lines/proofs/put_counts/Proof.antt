@@ -1,8 +1,9 @@
--- Each piece keeps the length of the lent space.
-use mathlib.Core.Path.{_∙_}
+-- `lines::put_counts` is right since it writes the fields one behind the other. Assumes nothing.
 use borrow.Author.Needs.{needs}
-use Rattle.trace.proofs.put_counts.Statement.{statement}
-use Rattle.trace.proofs.put_counts.Tie as tie
+use Rattle.text.proofs.Space.{first, next}
+use Rattle.lines.specs.Lines.{countFields}
+use Rattle.lines.proofs.put_counts.Statement.{statement}
+use Rattle.lines.proofs.put_counts.Tie as tie
 
 cast-put-number : tie.Need-cast-put-number
 cast-put-number c = search needs
@@ -34,24 +35,24 @@ cast-put-number-5 c = search needs
 put-number-requires-5 : tie.Need-put-number-requires-5
 put-number-requires-5 c κs = search needs
 
-slice-aggregate-put-text : tie.Need-slice-aggregate-put-text
-slice-aggregate-put-text c = search needs
-
-put-text-requires : tie.Need-put-text-requires
-put-text-requires c κs = search needs
-
 same-length : tie.Need-same-length
-same-length c =
-    let piece6 = c .before in
-    let piece5 = piece6 .before .before .before .before .before in
+same-length c = search needs
+
+returns : tie.Need-returns
+unfolding countFields
+returns c =
+    let piece5 = c .before .before in
     let piece4 = piece5 .before .before .before .before .before in
     let piece3 = piece4 .before .before .before .before .before in
     let piece2 = piece3 .before .before .before .before .before in
     let piece1 = piece2 .before .before .before .before .before in
-    piece6 .space6 .given ∙ piece5 .space5 .given ∙ piece4 .space4 .given ∙ piece3 .space3 .given ∙ piece2 .space2 .given ∙ piece1 .space .given
-
-returns : tie.Need-returns
-returns c = search needs
+    let a = piece1 .before .before .before .before .args in
+    let written1 = first (a .space .now) (a .at) _ (piece1 .put-number .ensures) in
+    let written2 = next written1 _ (piece2 .put-number2 .ensures) in
+    let written3 = next written2 _ (piece3 .put-number3 .ensures) in
+    let written4 = next written3 _ (piece4 .put-number4 .ensures) in
+    let written5 = next written4 _ (piece5 .put-number5 .ensures) in
+    (written5 .place, written5 .space)
 
 pub put-counts-spec : {M : Type 1} → statement M
 put-counts-spec =
@@ -67,7 +68,5 @@ put-counts-spec =
     put-number-requires-4
     cast-put-number-5
     put-number-requires-5
-    slice-aggregate-put-text
-    put-text-requires
     same-length
     returns)

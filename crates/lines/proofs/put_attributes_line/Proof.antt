@@ -1,8 +1,11 @@
--- Each piece keeps the length of the lent space.
-use mathlib.Core.Path.{_∙_}
+-- `lines::put_attributes_line` is right since it writes the pieces of the line one behind the other. Assumes nothing.
+use mathlib.Core.Path.{ap, _∙_}
 use borrow.Author.Needs.{needs}
-use Rattle.trace.proofs.put_attributes.Statement.{statement}
-use Rattle.trace.proofs.put_attributes.Tie as tie
+use lib.ListN.{length}
+use Rattle.text.proofs.Space.{length-put, first, next}
+use Rattle.lines.specs.Lines.{attributesLine}
+use Rattle.lines.proofs.put_attributes_line.Statement.{statement}
+use Rattle.lines.proofs.put_attributes_line.Tie as tie
 
 slice-aggregate-put-text : tie.Need-slice-aggregate-put-text
 slice-aggregate-put-text c = search needs
@@ -43,9 +46,14 @@ put-bits-requires-2 c κs = search needs
 put-counts-requires : tie.Need-put-counts-requires
 put-counts-requires c κs = search needs
 
-same-length : tie.Need-same-length
-same-length c =
-    let piece12 = c .before in
+end-line-requires : tie.Need-end-line-requires
+end-line-requires c κs = search needs
+
+returns : tie.Need-returns
+unfolding attributesLine
+returns c =
+    let piece13 = c .before .before in
+    let piece12 = piece13 .before .before .before .before in
     let piece11 = piece12 .before .before .before .before .before in
     let piece10 = piece11 .before .before .before .before in
     let piece9 = piece10 .before .before .before .before in
@@ -57,24 +65,27 @@ same-length c =
     let piece3 = piece4 .before .before .before .before in
     let piece2 = piece3 .before .before .before .before in
     let piece1 = piece2 .before .before .before .before in
-    piece12 .space12 .given
-    ∙ piece11 .space11 .given
-    ∙ piece10 .space10 .given
-    ∙ piece9 .space9 .given
-    ∙ piece8 .space8 .given
-    ∙ piece7 .space7 .given
-    ∙ piece6 .space6 .given
-    ∙ piece5 .space5 .given
-    ∙ piece4 .space4 .given
-    ∙ piece3 .space3 .given
-    ∙ piece2 .space2 .given
-    ∙ piece1 .space .given
+    let a = piece1 .before .before .before .before .args in
+    let written1 = first (a .space .now) (a .at) _ (piece1 .put-text .ensures) in
+    let written2 = next written1 _ (piece2 .put-number .ensures) in
+    let written3 = next written2 _ (piece3 .put-number2 .ensures) in
+    let written4 = next written3 _ (piece4 .put-number3 .ensures) in
+    let written5 = next written4 _ (piece5 .put-number4 .ensures) in
+    let written6 = next written5 _ (piece6 .put-number5 .ensures) in
+    let written7 = next written6 _ (piece7 .put-bits .ensures) in
+    let written8 = next written7 _ (piece8 .put-number6 .ensures) in
+    let written9 = next written8 _ (piece9 .put-number7 .ensures) in
+    let written10 = next written9 _ (piece10 .put-number8 .ensures) in
+    let written11 = next written10 _ (piece11 .put-bits2 .ensures) in
+    let written12 = next written11 _ (piece12 .put-counts .ensures) in
+    let written13 = next written12 _ (piece13 .end-line .ensures) in
+    (written13 .place, written13 .space)
 
-returns : tie.Need-returns
-returns c = search needs
+same-length : tie.Need-same-length
+same-length c = ap length (returns c .1) ∙ length-put _ _ _
 
-pub put-attributes-spec : {M : Type 1} → statement M
-put-attributes-spec =
+pub put-attributes-line-spec : {M : Type 1} → statement M
+put-attributes-line-spec =
     tie.close
     (tie.spec
     slice-aggregate-put-text
@@ -90,5 +101,6 @@ put-attributes-spec =
     put-number-requires-8
     put-bits-requires-2
     put-counts-requires
+    end-line-requires
     same-length
     returns)

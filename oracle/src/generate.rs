@@ -1,5 +1,6 @@
-//! Makes map files out of a seed. File `index` of a seed does not depend on the others.
+//! Makes map files and lists of calls out of a seed. File `index` of a seed does not depend on the others.
 
+pub mod calls;
 pub mod damage;
 pub mod mixed;
 pub mod objects;

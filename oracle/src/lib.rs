@@ -23,6 +23,8 @@ pub mod util;
 
 pub use stub::{Beatmap, GameMods};
 
+pub mod board;
+pub mod calls;
 pub mod command;
 pub mod encode;
 pub mod frame;

@@ -75,7 +75,7 @@ fn map_line(a: &Attributes) -> String {
     )
 }
 
-fn play_line(index: usize, estimates: &Estimates) -> String {
+pub fn play_line(index: usize, estimates: &Estimates) -> String {
     format!(
         "play {index} {} {} {} {}\n",
         float(estimates.accuracy),
@@ -85,7 +85,7 @@ fn play_line(index: usize, estimates: &Estimates) -> String {
     )
 }
 
-fn attributes_line(index: usize, a: &Attributes) -> String {
+pub fn attributes_line(index: usize, a: &Attributes) -> String {
     let mut line = format!(
         "attrs {index} {} {} {} {} {} {} {} {} {}",
         a.objects,

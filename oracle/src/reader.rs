@@ -15,6 +15,9 @@ pub const MAX_CLOCK_RATE: f64 = 100.0;
 pub const MAX_LEGACY_BONUS: u64 = 2_147_483_647;
 pub const MAX_ESTIMATED_COMBO: u32 = 46_341;
 
+/// Bytes of a play's record, its mark included.
+pub const PLAY_RECORD: usize = 44;
+
 #[derive(Copy, Clone, Debug, PartialEq, Eq)]
 pub struct Refusal {
     pub number: u8,
@@ -105,13 +108,7 @@ pub fn read_program(bytes: &[u8]) -> Result<MapFile, Refusal> {
 
 /// Reads as the library does.
 pub fn read_library(bytes: &[u8]) -> Result<MapFile, Refusal> {
-    let mut reader = Reader {
-        rest: bytes,
-        stage: Stage::Start,
-        map: MapFile::default(),
-        totals: vec![Totals::default()],
-        legacy_bonus: 0,
-    };
+    let mut reader = Reader::new(bytes, Stage::Start);
     if bytes.is_empty() {
         return Err(Refusal {
             number: 3,
@@ -127,7 +124,35 @@ pub fn read_library(bytes: &[u8]) -> Result<MapFile, Refusal> {
     Ok(reader.map)
 }
 
+/// Reads an edit's record: one object and nothing behind it, or the number of its refusal.
+pub fn read_object(bytes: &[u8]) -> Result<Object, u8> {
+    if bytes.is_empty() || bytes.starts_with(b"PL") {
+        return Err(3);
+    }
+    let mut reader = Reader::new(bytes, Stage::Objects);
+    reader.record()?;
+    match reader.map.objects.pop() {
+        Some(object) if reader.rest.is_empty() => Ok(object),
+        _ => Err(3),
+    }
+}
+
+/// The play of a whole record, unheld to any map.
+pub fn read_play(record: &[u8; PLAY_RECORD]) -> Result<Play, u8> {
+    play(&mut Fields(&record[2..]))
+}
+
 impl<'b> Reader<'b> {
+    fn new(rest: &'b [u8], stage: Stage) -> Self {
+        Self {
+            rest,
+            stage,
+            map: MapFile::default(),
+            totals: vec![Totals::default()],
+            legacy_bonus: 0,
+        }
+    }
+
     /// Reads one record, or gives the number of its first refusal.
     fn record(&mut self) -> Result<(), u8> {
         let mark = self.take(2)?;

@@ -1,7 +1,7 @@
 use std::fs;
 
 use crate::{
-    map::MapFile,
+    board::fits,
     reader::{Refusal, read_library, read_program},
     recipe::{self, Kind, Row},
 };
@@ -76,14 +76,9 @@ fn answer(row: &Row) -> Option<(u8, usize)> {
     };
     Some(match (read, &row.kind) {
         (Err(Refusal { number, offset }), _) => (number, offset),
-        (Ok(map), &Kind::Build { words, starts }) if !fits(&map, words, starts) => (11, 0),
+        (Ok(map), &Kind::Build { words, starts }) if !fits(map.objects.len(), words, starts) => {
+            (11, 0)
+        }
         (Ok(_), _) => (0, 0),
     })
-}
-
-/// Whether a build has room for the map's board and start table.
-fn fits(map: &MapFile, words: u32, starts: u32) -> bool {
-    let count = map.objects.len();
-    let needed = 26 * count.max(1).next_power_of_two();
-    words as usize >= needed && starts as usize >= count
 }

@@ -38,6 +38,26 @@ const DAMAGES: [(u64, (&str, Damage)); 18] = [
     (4, ("combo at its limit", much_combo)),
 ];
 
+/// The ways to damage the record of one object.
+const RECORD_DAMAGES: [Damage; 8] = [
+    flip_bits,
+    cut_anywhere,
+    cut_in_record,
+    replace_mark,
+    append_bytes,
+    replace_float,
+    change_nested_count,
+    change_nested_item,
+];
+
+/// Damages the record of one object, twice at times: then it shows which check comes first.
+pub fn damage_record(r: &mut Random, record: &mut Vec<u8>) {
+    for _ in 0..r.pick(&[1, 1, 1, 2]) {
+        let damage = r.pick(&RECORD_DAMAGES);
+        damage(r, record);
+    }
+}
+
 /// The damaged file `index` of a run, and the name of what was done to it.
 pub fn damaged_file(seed: u64, index: u64) -> (Vec<u8>, &'static str) {
     let mut r = Random::new(seed ^ 0xdada, index);
@@ -235,7 +255,7 @@ fn replace_float(r: &mut Random, bytes: &mut Vec<u8>) {
     }
 }
 
-fn bad_setting(r: &mut Random) -> f32 {
+pub fn bad_setting(r: &mut Random) -> f32 {
     r.pick(&[
         0.0,
         -0.0,
@@ -253,7 +273,7 @@ fn bad_setting(r: &mut Random) -> f32 {
     ])
 }
 
-fn bad_float(r: &mut Random, low: f64, high: f64) -> f64 {
+pub fn bad_float(r: &mut Random, low: f64, high: f64) -> f64 {
     let any = f64::from_bits(r.next_u64());
     r.pick(&[
         low,
@@ -345,7 +365,14 @@ fn exceed_map(r: &mut Random, bytes: &mut Vec<u8>) {
     let Some(mut play) = map.plays.pop() else {
         return;
     };
-    let a = Original::new(&map).attributes(play.passed.into());
+    exceed(r, &Original::new(&map), &mut play);
+    bytes.truncate(last);
+    encode::play(bytes, &play);
+}
+
+/// Puts a play of the map at or one beyond what it allows.
+pub fn exceed(r: &mut Random, original: &Original, play: &mut Play) {
+    let a = original.attributes(play.passed.into());
     let beyond = r.pick(&[0, 1, 1]);
     match r.below(4) {
         0 => play.max_combo = a.max_combo + beyond,
@@ -362,8 +389,6 @@ fn exceed_map(r: &mut Random, bytes: &mut Vec<u8>) {
             play.large_tick_hits = a.ticks + a.repeats + beyond;
         }
     }
-    bytes.truncate(last);
-    encode::play(bytes, &play);
 }
 
 fn many_breaks(r: &mut Random, bytes: &mut Vec<u8>) {

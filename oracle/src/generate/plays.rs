@@ -17,8 +17,14 @@ pub fn plays(r: &mut Random, map: &MapFile, shape: Shape) -> Vec<Play> {
     (0..count).map(|_| play(r, &original)).collect()
 }
 
-fn play(r: &mut Random, original: &Original) -> Play {
+/// A play of any passed count.
+pub fn play(r: &mut Random, original: &Original) -> Play {
     let passed = passed(r, original.object_count() as u64);
+    play_of(r, original, passed)
+}
+
+/// A play of this passed count.
+pub fn play_of(r: &mut Random, original: &Original, passed: u16) -> Play {
     let attributes = original.attributes(passed.into());
     let mut play = Play {
         passed,

@@ -103,7 +103,7 @@ fn within(time: f64) -> f64 {
 }
 
 /// Any time, often at a limit, a tie or next to one.
-fn time(r: &mut Random) -> f64 {
+pub fn time(r: &mut Random) -> f64 {
     match r.below(5) {
         0 => r.pick(&[
             MAX_TIME,

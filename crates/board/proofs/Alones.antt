@@ -16,7 +16,6 @@ use Rattle.records.specs.declared.record.Read.the-variants as read
 use Rattle.records.proofs.Laws.{never}
 use Rattle.board.specs.Edit.{objectOnly, objectIn, aloneOf, onlyOf}
 use Rattle.board.specs.declared.edit.Alone.{Alone}
-use Rattle.board.specs.declared.edit.Alone.the-variants as alone
 
 module _ (r : List ℕ) where
   pub empty : length r ≡ 0 → objectIn r ≡ refused 3

@@ -23,11 +23,6 @@ use Rattle.board.proofs.Edits as edits
 use borrow.Author.Needs.{needs}
 use Rattle.board.proofs.edit.edit.Statement.{statement}
 use Rattle.board.proofs.edit.edit.Tie as tie
-use Rattle.board.proofs.edit.read_alone.Reads as read-alone-reads
-use Rattle.board.proofs.edit.written.Reads as written-reads
-use Rattle.board.proofs.place.put_at.Reads as put-at-reads
-use Rattle.board.proofs.place.room_for.Reads as room-for-reads
-use Rattle.entries.proofs.entry.Entry.own.Reads as own-reads
 
 room-for-requires : tie.Need-room-for-requires
 room-for-requires c κs = search needs

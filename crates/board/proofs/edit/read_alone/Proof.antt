@@ -11,9 +11,6 @@ use mathlib.Core.Path.{sym, ap, _∙_}
 use borrow.Author.Needs.{needs}
 use Rattle.board.proofs.edit.read_alone.Statement.{statement}
 use Rattle.board.proofs.edit.read_alone.Tie as tie
-use Rattle.board.proofs.edit.object_only.Reads as object-only-reads
-use Rattle.numbers.proofs.words.word_at.Reads as word-at-reads
-use Rattle.records.proofs.hit_object.read_object.Reads as read-object-reads
 
 returns : tie.Need-returns
 returns c = sym (ap aloneOf (alones.empty (c .before .before .args .r .now) (c .if1 .taken)))

@@ -5,7 +5,6 @@ use Rattle.board.proofs.Puts as puts
 use borrow.Author.Needs.{needs}
 use Rattle.board.proofs.place.put_at.Statement.{statement}
 use Rattle.board.proofs.place.put_at.Tie as tie
-use Rattle.tree.proofs.climb.Reads as climb-reads
 
 add-climb : tie.Need-add-climb
 add-climb c = search needs

@@ -13,7 +13,6 @@ use Rattle.tree.specs.declared.Size.{Size}
 use borrow.Author.Needs.{needs}
 use Rattle.board.proofs.place.room_for.Statement.{statement}
 use Rattle.board.proofs.place.room_for.Tie as tie
-use Rattle.tree.proofs.size_of.Reads as size-of-reads
 
 returns : tie.Need-returns
 returns c =

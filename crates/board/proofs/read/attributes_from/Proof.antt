@@ -11,11 +11,6 @@ use Rattle.board.proofs.Readings as readings
 use borrow.Author.Needs.{needs}
 use Rattle.board.proofs.read.attributes_from.Statement.{statement}
 use Rattle.board.proofs.read.attributes_from.Tie as tie
-use Rattle.board.proofs.read.drain_from.Reads as drain-from-reads
-use Rattle.entries.proofs.values.counts_in.Reads as counts-in-reads
-use Rattle.entries.proofs.values.state_in.Reads as state-in-reads
-use Rattle.ruleset.proofs.score_multiplier.score_multiplier.Reads as score-multiplier-reads
-use Rattle.simulator.proofs.attributes.score_attributes.Reads as score-attributes-reads
 
 drain-from-requires : tie.Need-drain-from-requires
 drain-from-requires c κs = search needs

@@ -7,8 +7,6 @@ use Rattle.board.specs.Read.{drainFrom}
 use borrow.Author.Needs.{needs}
 use Rattle.board.proofs.read.drain_from.Statement.{statement}
 use Rattle.board.proofs.read.drain_from.Tie as tie
-use Rattle.ruleset.proofs.score_multiplier.break_len.Reads as break-len-reads
-use Rattle.ruleset.proofs.score_multiplier.drain_len.Reads as drain-len-reads
 
 returns : tie.Need-returns
 unfolding drainFrom

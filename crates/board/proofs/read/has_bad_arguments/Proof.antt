@@ -4,8 +4,6 @@ use Rattle.records.proofs.Laws.{so}
 use borrow.Author.Needs.{needs}
 use Rattle.board.proofs.read.has_bad_arguments.Statement.{statement}
 use Rattle.board.proofs.read.has_bad_arguments.Tie as tie
-use Rattle.board.proofs.read.has_bad_settings.Reads as has-bad-settings-reads
-use Rattle.board.proofs.read.has_bad_times.Reads as has-bad-times-reads
 
 has-bad-settings-requires : tie.Need-has-bad-settings-requires
 has-bad-settings-requires c κs = search needs

@@ -4,7 +4,6 @@ use Rattle.records.proofs.Laws.{so}
 use borrow.Author.Needs.{needs}
 use Rattle.board.proofs.read.has_bad_settings.Statement.{statement}
 use Rattle.board.proofs.read.has_bad_settings.Tie as tie
-use Rattle.board.proofs.read.is_bad_setting.Reads as is-bad-setting-reads
 
 is-bad-setting-requires : tie.Need-is-bad-setting-requires
 is-bad-setting-requires c κs = search needs

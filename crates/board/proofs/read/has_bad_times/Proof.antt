@@ -10,7 +10,6 @@ use Rattle.board.specs.Read.{timesBad}
 use Rattle.board.proofs.Times.{times-at, times-end}
 use Rattle.board.proofs.read.has_bad_times.Statement.{statement}
 use Rattle.board.proofs.read.has_bad_times.Tie as tie
-use Rattle.board.proofs.search.is_bad_time.Reads as is-bad-time-reads
 
 abbrev Inv-loop : tie.InvT-loop
 Inv-loop times i₀ i = (i ≤ length times) × (timesBad (drop i times) ≡ timesBad times)

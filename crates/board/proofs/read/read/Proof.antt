@@ -8,10 +8,6 @@ use Rattle.board.proofs.Readings as readings
 use borrow.Author.Needs.{needs}
 use Rattle.board.proofs.read.read.Statement.{statement}
 use Rattle.board.proofs.read.read.Tie as tie
-use Rattle.board.proofs.place.room_for.Reads as room-for-reads
-use Rattle.board.proofs.read.has_bad_arguments.Reads as has-bad-arguments-reads
-use Rattle.board.proofs.read.read_in.Reads as read-in-reads
-use Rattle.scoring.proofs.play_score.has_bad_mods.Reads as has-bad-mods-reads
 
 returns : tie.Need-returns
 returns c =

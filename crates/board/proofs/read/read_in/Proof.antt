@@ -12,11 +12,6 @@ use Rattle.board.proofs.Readings as readings
 use borrow.Author.Needs.{needs}
 use Rattle.board.proofs.read.read_in.Statement.{statement}
 use Rattle.board.proofs.read.read_in.Tie as tie
-use Rattle.board.proofs.read.attributes_from.Reads as attributes-from-reads
-use Rattle.board.proofs.search.find.Reads as find-reads
-use Rattle.estimates.proofs.counts.least.Reads as least-reads
-use Rattle.scoring.proofs.play_score.score_on.Reads as score-on-reads
-use Rattle.scoring.proofs.score.given.Reads as given-reads
 
 cast-least : tie.Need-cast-least
 cast-least c = search needs

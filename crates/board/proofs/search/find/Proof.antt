@@ -15,9 +15,6 @@ use Rattle.board.proofs.Searches as searches
 use borrow.Author.Needs.{needs}
 use Rattle.board.proofs.search.find.Statement.{statement}
 use Rattle.board.proofs.search.find.Tie as tie
-use Rattle.board.proofs.search.find_starts.Reads as find-starts-reads
-use Rattle.entries.proofs.values.is_unsound.Reads as is-unsound-reads
-use Rattle.tree.proofs.sum_of_first.Reads as sum-of-first-reads
 
 sum-of-first-requires : tie.Need-sum-of-first-requires
 sum-of-first-requires c κs =

@@ -9,8 +9,6 @@ use Rattle.board.specs.Search.{startsIn}
 use borrow.Author.Needs.{needs}
 use Rattle.board.proofs.search.find_starts.Statement.{statement}
 use Rattle.board.proofs.search.find_starts.Tie as tie
-use Rattle.board.proofs.search.is_bad_time.Reads as is-bad-time-reads
-use Rattle.board.proofs.search.last_place.Reads as last-place-reads
 
 returns : tie.Need-returns
 unfolding startsIn _>>_ refuse_when_ ofBits ofInt round

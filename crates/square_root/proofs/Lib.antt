@@ -2,6 +2,7 @@
 mod Assembly
 mod Cases
 mod DigitLoop
+mod DivisionStep
 pub mod Grid
 pub mod Isqrt
 mod Middle

@@ -34,20 +34,20 @@ fn next_digit(r: WholeRoot, pair: u64) -> WholeRoot
     }
 }
 
-// The whole root of m * 2 ^ 54, a number of up to 108 digits, in 64-bit words: the digits leave at the top of `rest`, two by two.
-fn whole_root(m: u64) -> WholeRoot
+// The whole root of m: its digits leave at the top of `rest`, two by two.
+fn half_root(m: u64) -> WholeRoot
     requires { ⌜ m < 2 ^ 54 ⌝ }
     ensures { λ q. ⌜
-        (q .root * q .root + q .remainder ≡ m * 2 ^ 54)
+        (q .root * q .root + q .remainder ≡ m)
         × (q .remainder ≤ q .root * 2)
-        × (q .root < 2 ^ 54)
+        × (q .root < 2 ^ 27)
         ⌝ }
 {
     let mut rest = m << 10;
     let mut root = 0u64;
     let mut remainder = 0u64;
     let mut i = 0u64;
-    while i < 54 {
+    while i < 27 {
         let q = next_digit(WholeRoot { root, remainder }, rest >> 62);
         root = q.root;
         remainder = q.remainder;
@@ -55,6 +55,46 @@ fn whole_root(m: u64) -> WholeRoot
         i += 1;
     }
     WholeRoot { root, remainder }
+}
+
+// 27 more digits x of the root h by one division, as (h * 2 ^ 27 + x)² is h² * 2 ^ 54 + h * x * 2 ^ 28 + x². The quotient leaves out x²,
+// which is at most 2 ^ 54 and so at most h * 2 ^ 28: the last digit is right, or one too high.
+fn other_half(r: WholeRoot) -> WholeRoot
+    requires { ⌜ (r .remainder ≤ r .root * 2) × (2 ^ 26 ≤ r .root) × (r .root < 2 ^ 27) ⌝ }
+    ensures { λ q. ⌜
+        (q .root * q .root + q .remainder ≡ (r .root * r .root + r .remainder) * 2 ^ 54)
+        × (q .remainder ≤ q .root * 2)
+        ⌝ }
+{
+    let h = r.root;
+    let dividend = r.remainder * 0x400_0000;
+    let digits = dividend / h;
+    let left = dividend % h * 0x1000_0000;
+    let root = h * 0x800_0000 + digits;
+    let square = digits * digits;
+    if square <= left {
+        WholeRoot {
+            root,
+            remainder: left - square,
+        }
+    } else {
+        WholeRoot {
+            root: root - 1,
+            remainder: left + root * 2 - 1 - square,
+        }
+    }
+}
+
+// The whole root of m * 2 ^ 54, a number of up to 108 digits, in 64-bit words.
+fn whole_root(m: u64) -> WholeRoot
+    requires { ⌜ (2 ^ 52 ≤ m) × (m < 2 ^ 54) ⌝ }
+    ensures { λ q. ⌜
+        (q .root * q .root + q .remainder ≡ m * 2 ^ 54)
+        × (q .remainder ≤ q .root * 2)
+        × (q .root < 2 ^ 54)
+        ⌝ }
+{
+    other_half(half_root(m))
 }
 
 // A number significand * 2 ^ exponent, with 53 digits in the significand.

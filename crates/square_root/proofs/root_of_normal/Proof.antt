@@ -16,7 +16,9 @@ shl-whole-root : tie.Need-shl-whole-root
 shl-whole-root c = search needs
 
 whole-root-requires : tie.Need-whole-root-requires
-whole-root-requires c κs = doubled-lt (c .args .significand) (c .args .exponent) (omega arith)
+whole-root-requires c κs =
+    let a = c .args in
+    (doubled-ge (a .significand) (a .exponent) (omega arith) (omega arith), doubled-lt (a .significand) (a .exponent) (omega arith))
 
 add-digits : tie.Need-add-digits
 add-digits c = search needs

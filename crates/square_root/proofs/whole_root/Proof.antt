@@ -1,43 +1,30 @@
--- `square_root::whole_root` is right since each turn takes two more digits of the number from `rest`, and `next_digit` makes the root of what was taken so far.
-use Prim.Native.Nat.{_-_, _*_, _%_, _^_}
+-- `square_root::whole_root` is right since a number of 53 digits or more has a root of 27, which is what `other_half` goes on from.
+use mathlib.Core.Path.{_≡_, ap, _∙_}
+use Prim.Native.Nat.{ℕ, _+_, _*_, _^_, _<_}
 use native.Mathlib.Omega.{arith}
-use native.Mathlib.Nat.{lt-of-lt-of-le}
-use lib.Pow.{pow-mono}
-use Rattle.square_root.proofs.DigitLoop.{Inv, start, again, done}
+use borrow.Author.Needs.{needs}
+use Rattle.square_root.proofs.Isqrt.{sq-lt}
+use Rattle.square_root.proofs.Assembly.{is-root, root-lt}
 use Rattle.square_root.proofs.whole_root.Statement.{statement}
 use Rattle.square_root.proofs.whole_root.Tie as tie
 
-abbrev Inv-loop : tie.InvT-loop
-Inv-loop m rest₀ root₀ remainder₀ i₀ rest root remainder i = Inv rest₀ rest root remainder i
+half-root-requires : tie.Need-half-root-requires
+half-root-requires c κs = search needs
 
-abbrev μ-loop : tie.MeasureT-loop
-μ-loop m rest₀ root₀ remainder₀ i₀ rest root remainder i = 54 - i
+other-half-requires : tie.Need-other-half-requires
+other-half-requires c κs =
+    let h = c .half-root .result .root in
+    let e = c .half-root .ensures in
+    let big : 2 ^ 26 < h + 1 = sq-lt (2 ^ 26) (h + 1) (omega arith) in
+    (e .1, omega arith, e .2)
 
-loop-holds : tie.Need-loop-holds Inv-loop μ-loop
-loop-holds c = start (c .args .m * 2 ^ 10 % 2 ^ 64) (omega arith)
-
-next-digit-requires : tie.Need-next-digit-requires Inv-loop μ-loop
-next-digit-requires c κs = (omega arith, lt-of-lt-of-le (c .before .loop .inv .3) (pow-mono {j = 60} (omega arith)), omega arith)
-
-add-i : tie.Need-add-i Inv-loop μ-loop
-add-i c = omega arith
-
-loop-less : tie.Need-loop-less Inv-loop μ-loop
-loop-less c = omega arith
-
-loop-again : tie.Need-loop-again Inv-loop μ-loop
-loop-again c =
-    let l = c .before .before .loop in
-    let e = c .next-digit .ensures in
-    again (c .before .before .before .args .m * 2 ^ 10 % 2 ^ 64) (l .rest) (l .root) (l .remainder) (l .i) (c .next-digit .result .root)
-    (c .next-digit .result .remainder) (l .inv) (c .before .loop-test .taken) (e .0) (e .1) (e .2)
-
-returns : tie.Need-returns Inv-loop μ-loop
+returns : tie.Need-returns
 returns c =
-    done (c .before .before .args .m) (c .before .loop .rest) (c .before .loop .root) (c .before .loop .remainder) (c .before .loop .i)
-    (c .before .before .pre) (c .before .loop .inv) (c .loop-test .left)
+    let m = c .before .before .args .m in
+    let q = c .other-half .result in
+    let e = c .other-half .ensures in
+    let number : q .root * q .root + q .remainder ≡ m * 2 ^ 54 = e .0 ∙ ap (λ (n : ℕ). n * 2 ^ 54) (c .before .half-root .ensures .0) in
+    (number, e .1, root-lt (q .root) m (omega arith) (is-root (q .root) (q .remainder) (m * 2 ^ 54) number (e .1)))
 
 pub whole-root-spec : {M : Type 1} → statement M
-whole-root-spec =
-    tie.close
-    (tie.spec Inv-loop μ-loop loop-holds next-digit-requires add-i loop-less loop-again returns)
+whole-root-spec = tie.close (tie.spec half-root-requires other-half-requires returns)

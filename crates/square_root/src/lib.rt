@@ -35,19 +35,19 @@ fn next_digit(r: WholeRoot, pair: u64) -> WholeRoot
 }
 
 // The whole root of m: its digits leave at the top of `rest`, two by two.
-fn half_root(m: u64) -> WholeRoot
-    requires { ⌜ m < 2 ^ 54 ⌝ }
+fn quarter_root(m: u64) -> WholeRoot
+    requires { ⌜ m < 2 ^ 28 ⌝ }
     ensures { λ q. ⌜
         (q .root * q .root + q .remainder ≡ m)
         × (q .remainder ≤ q .root * 2)
-        × (q .root < 2 ^ 27)
+        × (q .root < 2 ^ 14)
         ⌝ }
 {
-    let mut rest = m << 10;
+    let mut rest = m << 36;
     let mut root = 0u64;
     let mut remainder = 0u64;
     let mut i = 0u64;
-    while i < 27 {
+    while i < 14 {
         let q = next_digit(WholeRoot { root, remainder }, rest >> 62);
         root = q.root;
         remainder = q.remainder;
@@ -57,20 +57,27 @@ fn half_root(m: u64) -> WholeRoot
     WholeRoot { root, remainder }
 }
 
-// 27 more digits x of the root h by one division, as (h * 2 ^ 27 + x)² is h² * 2 ^ 54 + h * x * 2 ^ 28 + x². The quotient leaves out x²,
-// which is at most 2 ^ 54 and so at most h * 2 ^ 28: the last digit is right, or one too high.
-fn other_half(r: WholeRoot) -> WholeRoot
-    requires { ⌜ (r .remainder ≤ r .root * 2) × (2 ^ 26 ≤ r .root) × (r .root < 2 ^ 27) ⌝ }
+// More digits x of the root h by one division, from the number's next digits, as (h * p + x)² is h² * p² + h * 2 * x * p + x². The quotient
+// leaves out x², which is at most p² and so at most h * 2 * p: the last digit is right, or one too high.
+fn more_digits(r: WholeRoot, p: u64, upper: u64, lower: u64) -> WholeRoot
+    requires { ⌜
+        (r .remainder ≤ r .root * 2)
+        × (r .root < 2 ^ 27)
+        × (p ≤ r .root * 2)
+        × (p ≤ 2 ^ 27)
+        × (upper < p)
+        × (lower < p)
+        ⌝ }
     ensures { λ q. ⌜
-        (q .root * q .root + q .remainder ≡ (r .root * r .root + r .remainder) * 2 ^ 54)
+        (q .root * q .root + q .remainder ≡ ((r .root * r .root + r .remainder) * p + upper) * p + lower)
         × (q .remainder ≤ q .root * 2)
         ⌝ }
 {
-    let h = r.root;
-    let dividend = r.remainder * 0x400_0000;
-    let digits = dividend / h;
-    let left = dividend % h * 0x1000_0000;
-    let root = h * 0x800_0000 + digits;
+    let twice = r.root * 2;
+    let dividend = r.remainder * p + upper;
+    let digits = dividend / twice;
+    let left = dividend % twice * p + lower;
+    let root = r.root * p + digits;
     let square = digits * digits;
     if square <= left {
         WholeRoot {
@@ -85,6 +92,23 @@ fn other_half(r: WholeRoot) -> WholeRoot
     }
 }
 
+// The whole root of m: 14 digits by turns, the other 13 by a division.
+fn half_root(m: u64) -> WholeRoot
+    requires { ⌜ (2 ^ 52 ≤ m) × (m < 2 ^ 54) ⌝ }
+    ensures { λ q. ⌜
+        (q .root * q .root + q .remainder ≡ m)
+        × (q .remainder ≤ q .root * 2)
+        × (q .root < 2 ^ 27)
+        ⌝ }
+{
+    more_digits(
+        quarter_root(m >> 26),
+        0x2000,
+        (m >> 13) % 0x2000,
+        m % 0x2000,
+    )
+}
+
 // The whole root of m * 2 ^ 54, a number of up to 108 digits, in 64-bit words.
 fn whole_root(m: u64) -> WholeRoot
     requires { ⌜ (2 ^ 52 ≤ m) × (m < 2 ^ 54) ⌝ }
@@ -94,7 +118,7 @@ fn whole_root(m: u64) -> WholeRoot
         × (q .root < 2 ^ 54)
         ⌝ }
 {
-    other_half(half_root(m))
+    more_digits(half_root(m), 0x800_0000, 0, 0)
 }
 
 // A number significand * 2 ^ exponent, with 53 digits in the significand.

@@ -1,43 +1,29 @@
--- `square_root::half_root` is right since each turn takes two more digits of the number from `rest`, and `next_digit` makes the root of what was taken so far.
-use Prim.Native.Nat.{_-_, _*_, _%_, _^_}
+-- `square_root::half_root` is right since the upper 28 digits of a number of 53 or 54 have a root of 14, which is what `more_digits` goes on from.
+use mathlib.Core.Path.{_≡_}
+use Prim.Native.Nat.{_+_, _*_, _^_, _<_}
 use native.Mathlib.Omega.{arith}
-use native.Mathlib.Nat.{lt-of-lt-of-le}
-use lib.Pow.{pow-mono}
-use Rattle.square_root.proofs.DigitLoop.{Inv, start, again, done}
+use borrow.Author.Needs.{needs}
+use Rattle.square_root.proofs.Isqrt.{sq-lt}
 use Rattle.square_root.proofs.half_root.Statement.{statement}
 use Rattle.square_root.proofs.half_root.Tie as tie
 
-abbrev Inv-loop : tie.InvT-loop
-Inv-loop m rest₀ root₀ remainder₀ i₀ rest root remainder i = Inv rest₀ rest root remainder i
+quarter-root-requires : tie.Need-quarter-root-requires
+quarter-root-requires c κs = search needs
 
-abbrev μ-loop : tie.MeasureT-loop
-μ-loop m rest₀ root₀ remainder₀ i₀ rest root remainder i = 27 - i
+more-digits-requires : tie.Need-more-digits-requires
+more-digits-requires c κs =
+    let h = c .quarter-root .result .root in
+    let e = c .quarter-root .ensures in
+    let big : 2 ^ 13 < h + 1 = sq-lt (2 ^ 13) (h + 1) (omega arith) in
+    (e .1, omega arith, omega arith, omega arith, omega arith, omega arith)
 
-loop-holds : tie.Need-loop-holds Inv-loop μ-loop
-loop-holds c = start (c .args .m * 2 ^ 10 % 2 ^ 64) (omega arith)
-
-next-digit-requires : tie.Need-next-digit-requires Inv-loop μ-loop
-next-digit-requires c κs = (omega arith, lt-of-lt-of-le (c .before .loop .inv .3) (pow-mono {j = 60} (omega arith)), omega arith)
-
-add-i : tie.Need-add-i Inv-loop μ-loop
-add-i c = omega arith
-
-loop-less : tie.Need-loop-less Inv-loop μ-loop
-loop-less c = omega arith
-
-loop-again : tie.Need-loop-again Inv-loop μ-loop
-loop-again c =
-    let l = c .before .before .loop in
-    let e = c .next-digit .ensures in
-    again (c .before .before .before .args .m * 2 ^ 10 % 2 ^ 64) (l .rest) (l .root) (l .remainder) (l .i) (c .next-digit .result .root)
-    (c .next-digit .result .remainder) (l .inv) (c .before .loop-test .taken) (e .0) (e .1) (e .2)
-
-returns : tie.Need-returns Inv-loop μ-loop
+returns : tie.Need-returns
 returns c =
-    done (c .before .before .args .m) (c .before .loop .rest) (c .before .loop .root) (c .before .loop .remainder) (c .before .loop .i)
-    (c .before .before .pre) (c .before .loop .inv) (c .loop-test .left)
+    let m = c .before .before .args .m in
+    let q = c .more-digits .result in
+    let e = c .more-digits .ensures in
+    let number : q .root * q .root + q .remainder ≡ m = omega (arith, e .0, c .before .quarter-root .ensures .0) in
+    (number, e .1, sq-lt (q .root) (2 ^ 27) (omega arith))
 
 pub half-root-spec : {M : Type 1} → statement M
-half-root-spec =
-    tie.close
-    (tie.spec Inv-loop μ-loop loop-holds next-digit-requires add-i loop-less loop-again returns)
+half-root-spec = tie.close (tie.spec quarter-root-requires more-digits-requires returns)

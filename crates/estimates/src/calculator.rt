@@ -1,5 +1,4 @@
 // Of `OsuPerformanceCalculator`: the combo-based estimate and the effective miss count before its relax part.
-use crate::counts::float;
 use crate::counts::monus;
 use crate::counts::total_hits;
 use crate::counts::total_imperfect_hits;
@@ -11,6 +10,7 @@ use crate::score_state::accuracy;
 use crate::score_state::large_ticks;
 use numbers::minmax::max;
 use numbers::minmax::min;
+use numbers::rounding::float;
 use records::play::OsuHitResults;
 use records::play::OsuScoreOrigin;
 use records::play::Play;

@@ -1,8 +1,7 @@
-// Counts of a play and of a map, as whole numbers and as the floats that the estimates take.
+// Counts of a play and of a map.
 use records::play::OsuHitResults;
 ghost use mathlib.Core.Path.{_≡_};
 ghost use Prim.Native.Nat.{_-_, _≤_, min};
-ghost use Rattle.numbers.specs.Floats.{whole};
 ghost use Rattle.estimates.specs.Counts.{totalHits, imperfectHits};
 
 pub fn total_hits(h: OsuHitResults) -> u64
@@ -28,10 +27,4 @@ pub fn least(a: u64, b: u64) -> u64
     ensures { λ r. ⌜ r ≡ min a b ⌝ }
 {
     if a < b { a } else { b }
-}
-
-pub fn float(n: u64) -> f64
-    ensures { λ r. ⌜ r ≡ whole n ⌝ }
-{
-    std::num::nearest_u64_to_f64(n)
 }

@@ -1,7 +1,7 @@
 // `OsuHitResults::accuracy`.
-use crate::counts::float;
 use crate::counts::least;
 use crate::counts::total_hits;
+use numbers::rounding::float;
 use records::play::OsuHitResults;
 use records::play::OsuScoreOrigin;
 use simulator::attributes::OsuDifficultyAttributes;

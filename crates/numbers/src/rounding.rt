@@ -1,10 +1,11 @@
-// Floats to whole numbers: to the nearest with ties to the even one, and cut toward zero.
+// Floats to whole numbers, to the nearest with ties to the even one and cut toward zero, and whole numbers to floats.
 use super::bits::Parts;
 use super::bits::split;
 ghost use mathlib.Core.Path.{_≡_};
 ghost use Prim.Native.Nat.{min, _*_, _≤_, _<_, _^_};
 ghost use lib.Ieee as Ieee;
 ghost use lib.Ieee.Nearest.{closest};
+ghost use Rattle.numbers.specs.Floats.{whole};
 ghost use Rattle.numbers.specs.Rounding.{roundTiesEvenI32, saturated};
 
 // The whole number nearest to significand / 2 ^ shift, the even one of two that are as near.
@@ -82,5 +83,16 @@ pub fn cut(x: f64) -> u64
         }
     } else {
         0
+    }
+}
+
+// The f64 nearest to n, Rust's `n as f64`. A u32 takes one instruction, and nearly every number here is one.
+pub fn float(n: u64) -> f64
+    ensures { λ r. ⌜ r ≡ whole n ⌝ }
+{
+    if n < 0x1_0000_0000 {
+        (n as u32) as f64
+    } else {
+        std::num::nearest_u64_to_f64(n)
     }
 }

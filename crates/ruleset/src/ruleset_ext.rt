@@ -1,10 +1,10 @@
 // The difficulty stars, by which ScoreV1 multiplies its combo points.
 use numbers::bits::f32_to_f64;
 use numbers::minmax::clamp;
+use numbers::rounding::float;
 use numbers::rounding::round_ties_even_i32;
 use records::beatmap::Settings;
 use std::num::nearest_i64_to_f64;
-use std::num::nearest_u64_to_f64;
 ghost use mathlib.Core.Path.{_≡_};
 ghost use Rattle.ruleset.specs.Stars.{ratioOf, starsOf};
 
@@ -15,7 +15,7 @@ fn object_to_drain_ratio(object_count: u64, drain_len: i64) -> f64
         16.0
     } else {
         clamp(
-            nearest_u64_to_f64(object_count) / nearest_i64_to_f64(drain_len) * 8.0,
+            float(object_count) / nearest_i64_to_f64(drain_len) * 8.0,
             0.0,
             16.0,
         )

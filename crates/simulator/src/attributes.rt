@@ -2,8 +2,8 @@
 use crate::legacy_score::NestedScorePerObject;
 use crate::legacy_score_simulator::LegacyScoreAttributes;
 use crate::legacy_score_simulator::OsuLegacyScoreSimulator;
+use numbers::rounding::float;
 use spinner::StandardisedBonusScore;
-use std::num::nearest_u64_to_f64;
 ghost use mathlib.Core.Path.{_≡_};
 ghost use Prim.Native.Nat.{_≤_};
 ghost use Rattle.simulator.specs.Attributes.{difficultyAttributesOf, scoreAttributesOf};
@@ -48,8 +48,8 @@ fn difficulty_attributes(
         n_repeats: nested.n_repeats as u32,
         n_ticks: nested.amount_of_small_ticks as u32,
         nested_score_per_object: nested.calculate(),
-        legacy_score_base_multiplier: nearest_u64_to_f64(multiplier),
-        maximum_legacy_combo_score: nearest_u64_to_f64(score.combo_score * multiplier),
+        legacy_score_base_multiplier: float(multiplier),
+        maximum_legacy_combo_score: float(score.combo_score * multiplier),
     }
 }
 

@@ -1,11 +1,11 @@
 // The nested score: what ScoreV1 gives for the parts of sliders and the turns of spinners, for each object.
+use numbers::rounding::float;
 use records::hit_object::HitObject;
 use records::hit_object::HitObjectKind;
 use records::hit_object::Slider;
 use records::hit_object::Spinner;
 use spinner::HalfSpins;
 use spinner::half_spins;
-use std::num::nearest_u64_to_f64;
 ghost use mathlib.Core.Path.{_≡_};
 ghost use Prim.Native.Nat.{_-_, _≤_, _<_, _^_};
 ghost use Rattle.simulator.specs.Nested.{spinsScore, spinnerScoreOf, nestedScoreOf, counted, noObject};
@@ -99,9 +99,8 @@ impl NestedScorePerObject {
     {
         // A head and a tail for each slider, and the repeats.
         let amount_of_big_ticks = self.n_sliders * 2 + self.n_repeats;
-        let slider_score = nearest_u64_to_f64(amount_of_big_ticks) * 30.0
-            + nearest_u64_to_f64(self.amount_of_small_ticks) * 10.0;
-        (slider_score + nearest_u64_to_f64(self.spinner_score))
-            / nearest_u64_to_f64(self.object_count)
+        let slider_score = float(amount_of_big_ticks) * 30.0
+            + float(self.amount_of_small_ticks) * 10.0;
+        (slider_score + float(self.spinner_score)) / float(self.object_count)
     }
 }

@@ -1,11 +1,11 @@
 // The running state of ScoreV1, object by object. Its combo points are those of multiplier 1: the multiplier is a factor of each of them.
+use numbers::rounding::float;
 use records::hit_object::HitObject;
 use records::hit_object::HitObjectKind;
 use records::hit_object::Slider;
 use records::hit_object::Spinner;
 use spinner::LegacyBonusScore;
 use spinner::StandardisedBonusScore;
-use std::num::nearest_u64_to_f64;
 ghost use mathlib.Core.Path.{_≡_};
 ghost use Prim.Native.Nat.{_+_, _-_, _*_, _≤_};
 ghost use Rattle.simulator.specs.Hits.{hitsOf};
@@ -121,8 +121,7 @@ impl OsuLegacyScoreSimulator {
         if self.legacy_bonus_score.0 == 0 {
             0.0
         } else {
-            nearest_u64_to_f64(self.standardised_bonus_score.0)
-                / nearest_u64_to_f64(self.legacy_bonus_score.0)
+            float(self.standardised_bonus_score.0) / float(self.legacy_bonus_score.0)
         }
     }
 

@@ -1,5 +1,7 @@
 // The square root of an f64, rounded once, and the power 2.5 that is made of it.
 use numbers::bits::Parts;
+use numbers::rounding::cut;
+use std::num::nearest_u64_to_f64;
 ghost use mathlib.Core.Path.{_≡_};
 ghost use Prim.Native.Nat.{_+_, _*_, _^_, _≤_, _<_};
 ghost use Rattle.square_root.specs.Roots.{rooted, rootOf, powerOf};
@@ -93,7 +95,7 @@ fn more_digits(r: WholeRoot, p: u64, upper: u64, lower: u64) -> WholeRoot
 }
 
 // The whole root of m: 14 digits by turns, the other 13 by a division.
-fn half_root(m: u64) -> WholeRoot
+fn half_root_by_digits(m: u64) -> WholeRoot
     requires { ⌜ (2 ^ 52 ≤ m) × (m < 2 ^ 54) ⌝ }
     ensures { λ q. ⌜
         (q .root * q .root + q .remainder ≡ m)
@@ -107,6 +109,40 @@ fn half_root(m: u64) -> WholeRoot
         (m >> 13) % 0x2000,
         m % 0x2000,
     )
+}
+
+// Heron's rule: of a relative error e of y as the root of t about e² / 2 is left.
+fn heron(t: f64, y: f64) -> f64 {
+    0.5 * (y + t / y)
+}
+
+// A guess at the whole root of m. Nothing leans on it but speed: turns that depend on the digits cost more, as no processor foresees them.
+fn guess(m: u64) -> u64
+    ensures { λ r. ⌜ r < 2 ^ 31 ⌝ }
+{
+    let t = nearest_u64_to_f64(m) / 18014398509481984.0;
+    let parabola = 0.2593 + t * (1.052 - t * 0.3163);
+    cut(heron(t, heron(t, parabola)) * 134217728.0)
+}
+
+// The whole root of m: the guess, where it is right.
+fn half_root(m: u64) -> WholeRoot
+    requires { ⌜ (2 ^ 52 ≤ m) × (m < 2 ^ 54) ⌝ }
+    ensures { λ q. ⌜
+        (q .root * q .root + q .remainder ≡ m)
+        × (q .remainder ≤ q .root * 2)
+        × (q .root < 2 ^ 27)
+        ⌝ }
+{
+    let root = guess(m);
+    let square = root * root;
+    if square <= m {
+        let remainder = m - square;
+        if remainder <= root * 2 {
+            return WholeRoot { root, remainder };
+        }
+    }
+    half_root_by_digits(m)
 }
 
 // The whole root of m * 2 ^ 54, a number of up to 108 digits, in 64-bit words.

@@ -1,29 +1,37 @@
--- `square_root::half_root` is right since the upper 28 digits of a number of 53 or 54 have a root of 14, which is what `more_digits` goes on from.
-use mathlib.Core.Path.{_≡_}
-use Prim.Native.Nat.{_+_, _*_, _^_, _<_}
+-- `square_root::half_root` is right since a guess is taken only where it is the whole root: its square is not above m, and leaves at most twice the root.
+use Prim.Native.Nat.{ℕ, _*_, _^_, _≤_, _<_}
 use native.Mathlib.Omega.{arith}
+use native.Mathlib.Nat.{mul-le-mul}
 use borrow.Author.Needs.{needs}
 use Rattle.square_root.proofs.Isqrt.{sq-lt}
 use Rattle.square_root.proofs.half_root.Statement.{statement}
 use Rattle.square_root.proofs.half_root.Tie as tie
 
-quarter-root-requires : tie.Need-quarter-root-requires
-quarter-root-requires c κs = search needs
+guess-requires : tie.Need-guess-requires
+guess-requires c κs = search needs
 
-more-digits-requires : tie.Need-more-digits-requires
-more-digits-requires c κs =
-    let h = c .quarter-root .result .root in
-    let e = c .quarter-root .ensures in
-    let big : 2 ^ 13 < h + 1 = sq-lt (2 ^ 13) (h + 1) (omega arith) in
-    (e .1, omega arith, omega arith, omega arith, omega arith, omega arith)
+mul-square : tie.Need-mul-square
+mul-square c =
+    let g = c .guess .result in
+    let low : g ≤ 2147483647 = omega (arith, c .guess .ensures) in
+    let h = mul-le-mul low low in
+    omega (arith, h)
+
+mul-if2 : tie.Need-mul-if2
+mul-if2 c = search needs
 
 returns : tie.Need-returns
 returns c =
-    let m = c .before .before .args .m in
-    let q = c .more-digits .result in
-    let e = c .more-digits .ensures in
-    let number : q .root * q .root + q .remainder ≡ m = omega (arith, e .0, c .before .quarter-root .ensures .0) in
-    (number, e .1, sq-lt (q .root) (2 ^ 27) (omega arith))
+    let g = c .before .before .guess .result in
+    (omega arith, omega arith, sq-lt g (2 ^ 27) (omega arith))
+
+half-root-by-digits-requires : tie.Need-half-root-by-digits-requires
+half-root-by-digits-requires c κs = search needs
+
+returns-2 : tie.Need-returns-2
+returns-2 c = search needs
 
 pub half-root-spec : {M : Type 1} → statement M
-half-root-spec = tie.close (tie.spec quarter-root-requires more-digits-requires returns)
+half-root-spec =
+    tie.close
+    (tie.spec guess-requires mul-square mul-if2 returns half-root-by-digits-requires returns-2)

@@ -7,8 +7,8 @@ use borrow.Author.Needs.{needs}
 use Rattle.ruleset.proofs.ruleset_ext.object_to_drain_ratio.Statement.{statement}
 use Rattle.ruleset.proofs.ruleset_ext.object_to_drain_ratio.Tie as tie
 
-nearest-u64-to-f64-requires : tie.Need-nearest-u64-to-f64-requires
-nearest-u64-to-f64-requires c κs = search needs
+float-requires : tie.Need-float-requires
+float-requires c κs = search needs
 
 nearest-i64-to-f64-requires : tie.Need-nearest-i64-to-f64-requires
 nearest-i64-to-f64-requires c κs = search needs
@@ -29,13 +29,13 @@ returns-2 c =
     let at2 = at1 .before in
     let at3 = at2 .before in
     let at4 = at3 .before in
-    c .clamp .ensures ∙ simp (at2 .nearest-u64-to-f64 .ensures, at1 .nearest-i64-to-f64 .ensures, kept (at4 .args .drain-len) (at4 .fits .drain-len .sfits)) (at-other (at4 .args .object-count) (at4 .args .drain-len) (at3 .if1 .left))
+    c .clamp .ensures ∙ simp (at2 .float .ensures, at1 .nearest-i64-to-f64 .ensures, kept (at4 .args .drain-len) (at4 .fits .drain-len .sfits)) (at-other (at4 .args .object-count) (at4 .args .drain-len) (at3 .if1 .left))
 
 pub object-to-drain-ratio-spec : {M : Type 1} → statement M
 object-to-drain-ratio-spec =
     tie.close
     (tie.spec
-    nearest-u64-to-f64-requires
+    float-requires
     nearest-i64-to-f64-requires
     clamp-requires
     returns

@@ -26,23 +26,23 @@ cast-t9 c = search needs
 calculate-requires : tie.Need-calculate-requires
 calculate-requires c κs = search needs
 
-nearest-u64-to-f64-requires : tie.Need-nearest-u64-to-f64-requires
-nearest-u64-to-f64-requires c κs = search needs
+float-requires : tie.Need-float-requires
+float-requires c κs = search needs
 
-mul-nearest-u64-to-f64 : tie.Need-mul-nearest-u64-to-f64
-mul-nearest-u64-to-f64 c =
+mul-float : tie.Need-mul-float
+mul-float c =
     let at1 = c .before .before .before .before .before .before .before .before .before in
     record { fits = product-fits _ _ (at1 .pre .0 .points) (at1 .pre .2) }
 
-nearest-u64-to-f64-requires-2 : tie.Need-nearest-u64-to-f64-requires-2
-nearest-u64-to-f64-requires-2 c κs = search needs
+float-requires-2 : tie.Need-float-requires-2
+float-requires-2 c κs = search needs
 
 returns : tie.Need-returns
 unfolding difficultyAttributesOf
 returns c =
     let at1 = c .before .before in
     let at2 = at1 .before in
-    simp (at1 .nearest-u64-to-f64 .ensures, c .nearest-u64-to-f642 .ensures, at2 .calculate .ensures)
+    simp (at1 .float .ensures, c .float2 .ensures, at2 .calculate .ensures)
 
 pub difficulty-attributes-spec : {M : Type 1} → statement M
 difficulty-attributes-spec =
@@ -55,7 +55,7 @@ difficulty-attributes-spec =
     cast-t8
     cast-t9
     calculate-requires
-    nearest-u64-to-f64-requires
-    mul-nearest-u64-to-f64
-    nearest-u64-to-f64-requires-2
+    float-requires
+    mul-float
+    float-requires-2
     returns)

@@ -11,17 +11,17 @@ mul-amount-of-big-ticks c = search needs
 add-amount-of-big-ticks : tie.Need-add-amount-of-big-ticks
 add-amount-of-big-ticks c = search needs
 
-nearest-u64-to-f64-requires : tie.Need-nearest-u64-to-f64-requires
-nearest-u64-to-f64-requires c κs = search needs
+float-requires : tie.Need-float-requires
+float-requires c κs = search needs
 
-nearest-u64-to-f64-requires-2 : tie.Need-nearest-u64-to-f64-requires-2
-nearest-u64-to-f64-requires-2 c κs = search needs
+float-requires-2 : tie.Need-float-requires-2
+float-requires-2 c κs = search needs
 
-nearest-u64-to-f64-requires-3 : tie.Need-nearest-u64-to-f64-requires-3
-nearest-u64-to-f64-requires-3 c κs = search needs
+float-requires-3 : tie.Need-float-requires-3
+float-requires-3 c κs = search needs
 
-nearest-u64-to-f64-requires-4 : tie.Need-nearest-u64-to-f64-requires-4
-nearest-u64-to-f64-requires-4 c κs = search needs
+float-requires-4 : tie.Need-float-requires-4
+float-requires-4 c κs = search needs
 
 returns : tie.Need-returns
 unfolding nestedScoreOf ofBits ofInt
@@ -30,10 +30,10 @@ returns c =
     let at2 = at1 .before in
     let at3 = at2 .before in
     simp (
-      at3 .nearest-u64-to-f64 .ensures,
-      at2 .nearest-u64-to-f642 .ensures,
-      at1 .nearest-u64-to-f643 .ensures,
-      c .nearest-u64-to-f644 .ensures,
+      at3 .float .ensures,
+      at2 .float2 .ensures,
+      at1 .float3 .ensures,
+      c .float4 .ensures,
     )
 
 pub calculate-spec : {M : Type 1} → statement M
@@ -42,8 +42,8 @@ calculate-spec =
     (tie.spec
     mul-amount-of-big-ticks
     add-amount-of-big-ticks
-    nearest-u64-to-f64-requires
-    nearest-u64-to-f64-requires-2
-    nearest-u64-to-f64-requires-3
-    nearest-u64-to-f64-requires-4
+    float-requires
+    float-requires-2
+    float-requires-3
+    float-requires-4
     returns)

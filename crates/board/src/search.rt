@@ -3,7 +3,7 @@ use entries::entry::Entry;
 use entries::values::is_unsound;
 use tree::Combined;
 use tree::Size;
-use tree::sum_of_first;
+use tree::quick::quick_sum_of_first;
 ghost use mathlib.Core.Path.{_≡_};
 ghost use Prim.Native.Nat.{_-_, _≤_};
 ghost use lib.ListN.{length};
@@ -77,7 +77,7 @@ pub fn find(board: &[u64], starts: &[f64], size: Size, count: usize, p: usize) -
     requires { ⌜ Holds size count (now board) (now starts) × (p ≤ count) ⌝ }
     ensures { λ r. ⌜ r ≡ searchOf (foundOf (now (board .entry)) (now (starts .entry)) count p) ⌝ }
 {
-    match sum_of_first(board, size, p) {
+    match quick_sum_of_first(board, size, p) {
         Combined::Refused(number) => Search::Refused(number),
         Combined::Is(sum) => {
             let StartsFound::Are(found) = find_starts(starts, count, p) else {

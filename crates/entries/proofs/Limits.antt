@@ -2,15 +2,15 @@
 use Prim.Native.Nat.{ℕ, zero, suc, _+_, _*_, _≤_, _<_, suc-le-suc}
 use mathlib.Core.Path.{_≡_, refl, sym, ap, _∙_, subst}
 use mathlib.Core.Logic.{_≢_}
-use mathlib.Core.Bool.{Bool, true, false, _&&_, false≢true}
+use mathlib.Core.Bool.{Bool, true, false, cond, _&&_, false≢true}
 use mathlib.Core.List.{List, [], _∷_}
 use native.Mathlib.Omega.{arith}
 use native.Mathlib.Nat.{mul-le-mul, not-suc-le-zero, le-of-suc-le-suc, zero-lt-suc}
 use native.Mathlib.Decide.{ℕ-discrete}
-use lib.Dec.{leb, lit<, lit≤}
+use lib.Dec.{leb, ltb, eqb, lit<, lit≤}
 use lib.ListN.{length, getD}
 use borrow.Author.Tests.{leb-true, le-leb}
-use Rattle.entries.specs.Entry.{inLimits, allLe, wordsOf, limitList}
+use Rattle.entries.specs.Entry.{none, joined, inLimits, allLe, wordsOf, limitList, SumOf}
 use Rattle.entries.specs.declared.entry.Entry.{Entry}
 use Rattle.records.proofs.Laws.{and-left, and-right}
 
@@ -48,30 +48,124 @@ at-each {P} k here other i lt = go (ℕ-discrete i k)
     go (yes e) = subst P (sym e) here
     go (no n) = other i lt n
 
-abbrev allMost : List ℕ → Bool
-allMost [] = true
-allMost (l ∷ ls) = leb l 137438953472 && allMost ls
+abbrev allMost : ℕ → List ℕ → Bool
+allMost m [] = true
+allMost m (l ∷ ls) = leb l m && allMost m ls
 
--- no limit is above that of s, so a sum of two words fits
-most : (ls : List ℕ) → allMost ls ≡ true → (i : ℕ) → getD ls i 0 ≤ 137438953472
-most [] h i = omega arith
-most (l ∷ ls) h zero = leb-true l 137438953472 (and-left (leb l 137438953472) (allMost ls) h)
-most (l ∷ ls) h (suc i) = most ls (and-right (leb l 137438953472) (allMost ls) h) i
+most : (m : ℕ) (ls : List ℕ) → allMost m ls ≡ true → (i : ℕ) → getD ls i 0 ≤ m
+most m [] h i = omega arith
+most m (l ∷ ls) h zero = leb-true l m (and-left (leb l m) (allMost m ls) h)
+most m (l ∷ ls) h (suc i) = most m ls (and-right (leb l m) (allMost m ls) h) i
 
-module _ (a b : Entry) (ha : inLimits a ≡ true) (hb : inLimits b ≡ true) where
+-- no limit is above that of s
+limit-most : (i : ℕ) → getD limitList i 0 ≤ 137438953472
+limit-most = most 137438953472 limitList refl
+
+-- ---- the words of two neighbouring runs
+
+module _ (a b : Entry) where
+  abbrev more : ℕ → ℕ
+  more i = cond (eqb i 2) (a .combo * b .«object_count») 0
+
+  -- each word but f is the sum of both, and s has the combo that the objects of b meet
+  pub word-joined : (i : ℕ) → i < 13 → i ≢ 3 → getD (wordsOf (joined a b)) i 0 ≡ getD (wordsOf a) i 0 + getD (wordsOf b) i 0 + more i
+  unfolding joined
+  word-joined zero h n = omega arith
+  word-joined (suc zero) h n = omega arith
+  word-joined (suc (suc zero)) h n = omega arith
+  word-joined (suc (suc (suc zero))) h n = absurd (n refl)
+  word-joined (suc (suc (suc (suc zero)))) h n = omega arith
+  word-joined (suc (suc (suc (suc (suc zero))))) h n = omega arith
+  word-joined (suc (suc (suc (suc (suc (suc zero)))))) h n = omega arith
+  word-joined (suc (suc (suc (suc (suc (suc (suc zero))))))) h n = omega arith
+  word-joined (suc (suc (suc (suc (suc (suc (suc (suc zero)))))))) h n = omega arith
+  word-joined (suc (suc (suc (suc (suc (suc (suc (suc (suc zero))))))))) h n = omega arith
+  word-joined (suc (suc (suc (suc (suc (suc (suc (suc (suc (suc zero)))))))))) h n = omega arith
+  word-joined (suc (suc (suc (suc (suc (suc (suc (suc (suc (suc (suc zero))))))))))) h n = omega arith
+  word-joined (suc (suc (suc (suc (suc (suc (suc (suc (suc (suc (suc (suc zero)))))))))))) h n = omega arith
+  word-joined (suc (suc (suc (suc (suc (suc (suc (suc (suc (suc (suc (suc (suc i))))))))))))) h n = absurd (omega (arith, h))
+
+  more-most : (i : ℕ) → more i ≤ a .combo * b .«object_count»
+  more-most i = go (eqb i 2)
+    where
+      go : (c : Bool) → cond c (a .combo * b .«object_count») 0 ≤ a .combo * b .«object_count»
+      go true = omega arith
+      go false = omega arith
+
+  -- f is that of one of them
+  pub first-most : (m : ℕ) → a .«first_no_slider» ≤ m → b .«first_no_slider» ≤ m → joined a b .«first_no_slider» ≤ m
+  unfolding joined
+  first-most m ha hb = go (ltb 0 (a .«object_count»))
+    where
+      go : (c : Bool) → cond c (a .«first_no_slider») (b .«first_no_slider») ≤ m
+      go true = ha
+      go false = hb
+
+-- ---- a sum of a few entries
+
+pub sum-of-one : (e : Entry) → inLimits e ≡ true → SumOf 14 e
+unfolding SumOf
+sum-of-one e h = (
+  λ i lt. let x = word-le e h i lt in let m = limit-most i in omega (arith, x, m),
+  let k : e .combo ≤ 8200192 = word-le e h 1 (lit< tt) in omega (arith, k),
+)
+
+pub sum-of-none : SumOf 0 none
+unfolding SumOf
+sum-of-none = (λ i lt. most 0 (wordsOf none) refl i, omega arith)
+
+pub sum-of-more : (n k : ℕ) (e : Entry) → n ≤ k → SumOf n e → SumOf k e
+unfolding SumOf
+sum-of-more n k e le h = (λ i lt. let x = h .0 i lt in omega (arith, x, le), let x = h .1 in omega (arith, x, le))
+
+-- one entry more
+pub sum-of-joined : (n : ℕ) (a b : Entry) → n < 14 → SumOf n a → inLimits b ≡ true → SumOf (suc n) (joined a b)
+unfolding SumOf
+sum-of-joined n a b few ha hb = (at-each 3 first other, combo)
+  where
+    product : a .combo * b .«object_count» ≤ n * 8200192 * 8192
+    product = mul-le-mul (ha .1) (word-le b hb 0 (lit< tt))
+
+    first : joined a b .«first_no_slider» ≤ suc n * 2199023255552
+    first =
+        let x = ha .0 3 (lit< tt) in
+        let y : b .«first_no_slider» ≤ 1 = word-le b hb 3 (lit< tt) in
+        first-most a b (suc n * 2199023255552) (omega (arith, x)) (omega (arith, y))
+
+    other : (i : ℕ) → i < 13 → i ≢ 3 → getD (wordsOf (joined a b)) i 0 ≤ suc n * 2199023255552
+    other i lt ne =
+        let w = word-joined a b i lt ne in
+        let x = ha .0 i lt in
+        let y = word-le b hb i lt in
+        let m = limit-most i in
+        let p = more-most a b i in
+        let q = product in
+        omega (arith, w, x, y, m, p, q, few)
+
+    combo : joined a b .combo ≤ suc n * 8200192
+    combo =
+        let w : joined a b .combo ≡ a .combo + b .combo + 0 = word-joined a b 1 (lit< tt) (omega arith) in
+        let x = ha .1 in
+        let y : b .combo ≤ 8200192 = word-le b hb 1 (lit< tt) in
+        omega (arith, w, x, y)
+
+module _ (a b : Entry) (ha : SumOf 14 a) (hb : inLimits b ≡ true) where
   pub sum-fits : (i : ℕ) → i < 13 → getD (wordsOf a) i 0 + getD (wordsOf b) i 0 < 18446744073709551616
+  unfolding SumOf
   sum-fits i h =
-      let x = word-le a ha i h in
+      let x = ha .0 i h in
       let y = word-le b hb i h in
-      let m = most limitList refl i in
+      let m = limit-most i in
       omega (arith, x, y, m)
 
-  pub product-fits : a .combo * b .«object_count» ≤ 8200192 * 8192
-  product-fits = mul-le-mul (word-le a ha 1 (lit< tt)) (word-le b hb 0 (lit< tt))
+  pub product-fits : a .combo * b .«object_count» ≤ 114802688 * 8192
+  unfolding SumOf
+  product-fits = mul-le-mul (ha .1) (word-le b hb 0 (lit< tt))
 
   pub combos-fit : a .«combos_before» + b .«combos_before» + a .combo * b .«object_count» < 18446744073709551616
+  unfolding SumOf
   combos-fit =
-      let x : a .«combos_before» ≤ 137438953472 = word-le a ha 2 (lit< tt) in
+      let x : a .«combos_before» ≤ 14 * 2199023255552 = ha .0 2 (lit< tt) in
       let y : b .«combos_before» ≤ 137438953472 = word-le b hb 2 (lit< tt) in
       let p = product-fits in
       omega (arith, x, y, p)

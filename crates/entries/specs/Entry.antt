@@ -1,9 +1,9 @@
 -- Document 01, "The board": the 13 words of an entry, from the objects that it covers alone; the words of two neighbouring runs of objects; limits.
-use Prim.Native.Nat.{ℕ, _+_, _*_, _≤_}
+use Prim.Native.Nat.{ℕ, _+_, _*_, _≤_, _<_}
 use mathlib.Core.Bool.{Bool, true, false, cond, _&&_}
 use mathlib.Core.List.{List, [], _∷_}
 use lib.Dec.{leb, ltb}
-use lib.ListN.{length}
+use lib.ListN.{length, getD}
 use Rattle.spinner.specs.Bonus.{legacyOf, standardisedOf}
 use Rattle.records.specs.Objects.{Object, Kind, circle, slider, spinner, repeats, ticks, kindBonus}
 use Rattle.records.specs.declared.hit_object.Slider.{Slider}
@@ -150,6 +150,10 @@ allLe t (x ∷ xs) (l ∷ ls) = allLe (t && leb x l) xs ls
 
 unfoldable pub inLimits : Entry → Bool
 inLimits e = allLe true (wordsOf e) limitList
+
+-- what n entries within the limits add up to, for n up to 14
+unfoldable pub SumOf : ℕ → Entry → Type 0
+SumOf n e = ((i : ℕ) → i < 13 → getD (wordsOf e) i 0 ≤ n * 2199023255552) × (e .combo ≤ n * 8200192)
 
 -- ---- what the code makes of one object
 abbrev pub circleEntry : Entry

@@ -8,7 +8,7 @@ ghost use mathlib.Core.Path.{_≡_};
 ghost use mathlib.Core.Bool.{true};
 ghost use Prim.Native.Nat.{_+_, _≤_};
 ghost use Rattle.simulator.specs.Limits.{nestedCount};
-ghost use Rattle.entries.specs.Entry.{none, joined, firstOf, inLimits, circleEntry, sliderEntry, spinnerEntry, ownEntry};
+ghost use Rattle.entries.specs.Entry.{none, joined, firstOf, inLimits, SumOf, circleEntry, sliderEntry, spinnerEntry, ownEntry};
 
 // Combo and combos_before are document 01's k and s, first_no_slider its f.
 pub struct Entry {
@@ -147,9 +147,9 @@ impl Entry {
             & (self.spinner_score <= Entry::MAX_SCORE)
     }
 
-    // That of the objects of self, then those of b.
+    // That of the objects of self, then those of b. Sums of a few entries leave room, so that they can be checked later.
     pub fn join(self, b: Entry) -> Self
-        requires { ⌜ (inLimits self ≡ true) × (inLimits b ≡ true) ⌝ }
+        requires { ⌜ SumOf 14 self × (inLimits b ≡ true) ⌝ }
         ensures { λ r. ⌜ r ≡ joined self b ⌝ }
     {
         Entry {

@@ -30,6 +30,17 @@ look-ends n l h = go (13 - l)
     go zero = refl
     go (suc a) = rw (le-leb _ _ h)
 
+-- looking from level l on finds what looking from 0 does, if all levels below are too small
+reached : (n l : ℕ) → l ≤ 13 → ((k : ℕ) → k < l → 2 ^ k < n) → levelsFrom (13 - l) n l ≡ levelsOf n
+unfolding levelsOf
+reached n zero h small = refl
+reached n (suc l) h small =
+    let step : levelsFrom (13 - suc l) n (suc l) ≡ levelsFrom (13 - l) n l = rw add-one at (look-on n l h (small l (omega arith))) in
+    step ∙ reached n l (omega (arith, h)) (λ k lt. small k (omega (arith, lt)))
+
+pub levels-are : (n l : ℕ) → l ≤ 13 → n ≤ 2 ^ l → ((k : ℕ) → k < l → 2 ^ k < n) → l ≡ levelsOf n
+levels-are n l h hold small = look-ends n l hold ∙ reached n l h small
+
 -- the levels found hold n places
 pub levels-from : (k n l : ℕ) → n ≤ 2 ^ (l + k) → n ≤ 2 ^ levelsFrom k n l
 unfolding levelsFrom

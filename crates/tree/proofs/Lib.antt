@@ -4,6 +4,7 @@ pub mod Climbs
 pub mod Firsts
 pub mod Covers
 pub mod Within
+pub mod Jumps
 pub mod Kept
 pub mod Honest
 pub mod FirstRight

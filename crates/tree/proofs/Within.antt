@@ -13,7 +13,7 @@ use Rattle.records.specs.Objects.{Object}
 use Rattle.entries.specs.Entry.{joined, entryOf, wordsOf, inLimits}
 use Rattle.entries.specs.declared.entry.Entry.{Entry}
 use Rattle.entries.proofs.Accepted.{entry-first}
-use Rattle.entries.proofs.Limits.{word-le, within-of, at-each}
+use Rattle.entries.proofs.Limits.{word-le, within-of, at-each, word-joined}
 use Rattle.tree.specs.Board.{entryIn}
 use Rattle.tree.specs.Limited.{withoutLegacy}
 use Rattle.tree.proofs.Covers.{entry-node, even, odd}
@@ -25,21 +25,7 @@ module _ (a b : Entry) where
   Below v i = getD (wordsOf v) i 0 ≤ getD (wordsOf (joined a b)) i 0
 
   both : (i : ℕ) → i < 13 → i ≢ 3 → Below a i × Below b i
-  unfolding joined
-  both zero h n = (omega arith, omega arith)
-  both (suc zero) h n = (omega arith, omega arith)
-  both (suc (suc zero)) h n = (omega arith, omega arith)
-  both (suc (suc (suc zero))) h n = absurd (n refl)
-  both (suc (suc (suc (suc zero)))) h n = (omega arith, omega arith)
-  both (suc (suc (suc (suc (suc zero))))) h n = (omega arith, omega arith)
-  both (suc (suc (suc (suc (suc (suc zero)))))) h n = (omega arith, omega arith)
-  both (suc (suc (suc (suc (suc (suc (suc zero))))))) h n = (omega arith, omega arith)
-  both (suc (suc (suc (suc (suc (suc (suc (suc zero)))))))) h n = (omega arith, omega arith)
-  both (suc (suc (suc (suc (suc (suc (suc (suc (suc zero))))))))) h n = (omega arith, omega arith)
-  both (suc (suc (suc (suc (suc (suc (suc (suc (suc (suc zero)))))))))) h n = (omega arith, omega arith)
-  both (suc (suc (suc (suc (suc (suc (suc (suc (suc (suc (suc zero))))))))))) h n = (omega arith, omega arith)
-  both (suc (suc (suc (suc (suc (suc (suc (suc (suc (suc (suc (suc zero)))))))))))) h n = (omega arith, omega arith)
-  both (suc (suc (suc (suc (suc (suc (suc (suc (suc (suc (suc (suc (suc i))))))))))))) h n = absurd (omega (arith, h))
+  both i h n = let e = word-joined a b i h n in (omega (arith, e), omega (arith, e))
 
   part-in : (v : Entry) → ((i : ℕ) → i < 13 → i ≢ 3 → Below v i) → v .«first_no_slider» ≤ 1 → inLimits (joined a b) ≡ true → inLimits v ≡ true
   part-in v below f h = within-of v (at-each 3 f (λ i lt n. le-trans (below i lt n) (word-le (joined a b) h i lt)))

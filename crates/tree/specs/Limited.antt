@@ -38,6 +38,12 @@ afterOf a read = do
   refuse 13 when not (inLimits read)
   limited (joined a read)
 
+-- the same with the combination unchecked
+unfoldable pub sumOf : Entry → Entry → Checked Entry
+sumOf a read = do
+  refuse 13 when not (inLimits read)
+  good (joined a read)
+
 abbrev pub combinedOf : Checked Entry → Combined
 combinedOf (refused n) = combined.Refused n
 combinedOf (good e) = combined.Is e

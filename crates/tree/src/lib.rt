@@ -1,6 +1,8 @@
 // The tree of entries in a lent slice of words: entry e above 2e and 2e + 1, the places' own entries at its bottom.
 pub mod build;
+pub mod quick;
 
+use crate::quick::largest_width;
 use entries::entry::Entry;
 use entries::words::load;
 use entries::words::store;
@@ -111,13 +113,14 @@ pub fn size_of(count: usize) -> Size
     requires { ⌜ count ≤ 8192 ⌝ }
     ensures { λ r. ⌜ (r .levels ≡ levelsOf count) × (r .cap ≡ capOf count) × (r .cap ≤ 8192) × (count ≤ r .cap) × (r .levels ≤ 13) ⌝ }
 {
-    let mut levels = 0;
-    let mut cap = 1;
-    while cap < count {
-        cap = cap * 2;
-        levels = levels + 1;
+    if count <= 1 {
+        return Size { levels: 0, cap: 1 };
     }
-    Size { levels, cap }
+    let half = largest_width(count - 1);
+    Size {
+        levels: half.level as usize + 1,
+        cap: half.places * 2,
+    }
 }
 
 // Where a combination of the first places stands: the levels below, the entry to look at next, how many places it covers, how many are left.

@@ -4,6 +4,7 @@ use borrow.Author.Tests.{not-true, not-false, eq-eqb, ne-eqb}
 use Rattle.records.proofs.Laws.{so}
 use Rattle.records.specs.Refusals.{_>>_, refuse_when_}
 use Rattle.entries.specs.declared.entry.Entry.{Entry}
+use Rattle.entries.proofs.Limits.{sum-of-one}
 use Rattle.tree.specs.Limited.{limited, combinedOf}
 use Rattle.tree.specs.Put.{aboveOf}
 use borrow.Author.Needs.{needs}
@@ -18,7 +19,7 @@ unfolding aboveOf _>>_ refuse_when_
 returns c = simp (so (c .before .within .ensures) (not-true _ (c .if1 .taken)))
 
 join-requires : tie.Need-join-requires
-join-requires c κs = (c .before .before .before .pre, so (c .before .before .within .ensures) (not-false _ (c .before .if1 .left)))
+join-requires c κs = (sum-of-one _ (c .before .before .before .pre), so (c .before .before .within .ensures) (not-false _ (c .before .if1 .left)))
 
 limit-requires : tie.Need-limit-requires
 limit-requires c κs = search needs
@@ -32,7 +33,7 @@ returns-2 c =
     simp (so (at3 .within .ensures) (not-false _ (at2 .if1 .left)), eq-eqb _ _ (at1 .if2 .taken)) (c .limit .ensures ∙ ap (λ (x : Entry). combinedOf (limited x)) (c .before .join .ensures))
 
 join-requires-2 : tie.Need-join-requires-2
-join-requires-2 c κs = (so (c .before .before .within .ensures) (not-false _ (c .before .if1 .left)), c .before .before .before .pre)
+join-requires-2 c κs = (sum-of-one _ (so (c .before .before .within .ensures) (not-false _ (c .before .if1 .left))), c .before .before .before .pre)
 
 limit-requires-2 : tie.Need-limit-requires-2
 limit-requires-2 c κs = search needs

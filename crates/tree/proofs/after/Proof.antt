@@ -4,6 +4,7 @@ use borrow.Author.Tests.{not-true, not-false}
 use Rattle.records.proofs.Laws.{so}
 use Rattle.records.specs.Refusals.{_>>_, refuse_when_}
 use Rattle.entries.specs.declared.entry.Entry.{Entry}
+use Rattle.entries.proofs.Limits.{sum-of-one}
 use Rattle.tree.specs.Limited.{limited, afterOf, combinedOf}
 use borrow.Author.Needs.{needs}
 use Rattle.tree.proofs.after.Statement.{statement}
@@ -17,7 +18,7 @@ unfolding afterOf _>>_ refuse_when_
 returns c = simp (so (c .before .within .ensures) (not-true _ (c .if1 .taken)))
 
 join-requires : tie.Need-join-requires
-join-requires c κs = (c .before .before .pre, so (c .before .within .ensures) (not-false _ (c .if1 .left)))
+join-requires c κs = (sum-of-one _ (c .before .before .pre), so (c .before .within .ensures) (not-false _ (c .if1 .left)))
 
 limit-requires : tie.Need-limit-requires
 limit-requires c κs = search needs

@@ -1,59 +1,62 @@
--- `size_of` is right since `cap` is the power of two of `levels`, and looking on from there finds what looking from 0 does.
-use Prim.Native.Nat.{ℕ, zero, suc, _+_, _-_, _*_, _^_, _≤_, _<_}
-use mathlib.Core.Path.{_≡_, refl, sym, ap, _∙_, subst}
+-- Half of C is the largest power of two below the count, where the count is above 1.
+use Prim.Native.Nat.{ℕ, suc, _+_, _-_, _*_, _^_, _≤_, _<_}
+use mathlib.Core.Path.{_≡_, sym, ap, _∙_, subst}
 use native.Mathlib.Omega.{arith}
-use native.Mathlib.Nat.{pow-suc, sub-self, sub-zero}
+use native.Mathlib.Nat.{pow-suc, le-of-suc-le-suc}
 use native.Mathlib.Numerals.{add-one}
 use lib.Pow.{pow-mono}
-use Rattle.tree.specs.Size.{levelsOf, levelsFrom, capOf}
-use Rattle.tree.proofs.Levels.{look-on, look-ends, below-13}
+use borrow.Author.Needs.{needs}
+use Rattle.tree.specs.Size.{levelsOf, capOf}
+use Rattle.tree.proofs.Levels.{below-13, levels-are}
 use Rattle.tree.proofs.size_of.Statement.{statement}
 use Rattle.tree.proofs.size_of.Tie as tie
 
-abbrev Inv-loop : tie.InvT-loop
-Inv-loop count levels₀ cap₀ levels cap = (cap ≡ 2 ^ levels) × (levels ≤ 13) × (levelsFrom (13 - levels) count levels ≡ levelsOf count) × (cap ≤ 8192)
+-- the size for a count of which a power of two holds all, and half of it does not
+abbrev SizeFor : ℕ → ℕ → ℕ → Type 0
+SizeFor n l c = (l ≡ levelsOf n) × (c ≡ capOf n) × (c ≤ 8192) × (n ≤ c) × (l ≤ 13)
 
-abbrev μ-loop : tie.MeasureT-loop
-μ-loop count levels₀ cap₀ levels cap = 13 - levels
+size-for : (n l : ℕ) → l ≤ 13 → n ≤ 2 ^ l → ((k : ℕ) → k < l → 2 ^ k < n) → SizeFor n l (2 ^ l)
+size-for n l h hold small =
+    let e = levels-are n l h hold small in
+    (e, ap (λ (m : ℕ). 2 ^ m) e, pow-mono {i = l} {j = 13} h, hold, h)
 
-loop-holds : tie.Need-loop-holds Inv-loop μ-loop
-unfolding levelsOf
-loop-holds c = (refl, omega arith, refl, omega arith)
+returns : tie.Need-returns
+returns c = size-for (c .before .args .count) 0 (omega arith) (c .if1 .taken) (λ k lt. absurd (omega (arith, lt)))
 
-mul-cap : tie.Need-mul-cap Inv-loop μ-loop
-mul-cap c = omega arith
+sub-largest-width : tie.Need-sub-largest-width
+sub-largest-width c = search needs
 
--- in a turn there are levels left
-room : (c : tie.In-loop Inv-loop μ-loop) → c .before .loop .levels < 13
-room c = below-13 _ (omega (arith, c .before .loop .inv .0))
+largest-width-requires : tie.Need-largest-width-requires
+largest-width-requires c κs = search needs
 
-add-levels : tie.Need-add-levels Inv-loop μ-loop
-add-levels c = omega (arith, room c)
+cast-t4 : tie.Need-cast-t4
+cast-t4 c = search needs
 
-loop-less : tie.Need-loop-less Inv-loop μ-loop
-loop-less c = omega (arith, room c)
+add-t5 : tie.Need-add-t5
+add-t5 c = search needs
 
-loop-again : tie.Need-loop-again Inv-loop μ-loop
-loop-again c =
-    let at1 = c .before .before in
-    let l = c .before .loop in
-    let i = l .inv in
-    let h = room c in (
-      ap (λ (n : ℕ). n * 2) (i .0) ∙ sym (ap (λ (n : ℕ). 2 ^ n) (add-one (l .levels)) ∙ pow-suc 2 (l .levels)),
-      omega arith,
-      look-on (at1 .args .count) (l .levels) h (subst (λ (n : ℕ). n < at1 .args .count) (i .0) (c .loop-test .taken)) ∙ i .2,
-      subst (λ (n : ℕ). n * 2 ≤ 8192) (sym (i .0)) (subst (λ (n : ℕ). n ≤ 8192) (pow-suc 2 (l .levels)) (pow-mono {j = 13} h)),
-    )
+mul-t6 : tie.Need-mul-t6
+mul-t6 c = search needs
 
-returns : tie.Need-returns Inv-loop μ-loop
-returns c =
-    let at1 = c .before .before in
-    let l = c .before .loop in
-    let i = l .inv in
-    let e = look-ends (at1 .args .count) (l .levels) (subst (λ (n : ℕ). at1 .args .count ≤ n) (i .0) (c .loop-test .left)) ∙ i .2 in
-    (e, i .0 ∙ ap (λ (n : ℕ). 2 ^ n) e, i .3, c .loop-test .left, i .1)
+doubled : (n l w : ℕ) → n ≤ 8192 → w ≡ 2 ^ l → w ≤ n - 1 → n - 1 < 2 * w → 0 < w → SizeFor n (l + 1) (w * 2)
+doubled n l w few is le lt some =
+    let twice : w * 2 ≡ 2 ^ (l + 1) = ap (λ (m : ℕ). m * 2) is ∙ sym (ap (λ (m : ℕ). 2 ^ m) (add-one l) ∙ pow-suc 2 l) in
+    let high : l < 13 = below-13 l (omega (arith, is, le, few, some)) in
+    subst (SizeFor n (l + 1)) (sym twice)
+    (size-for n (l + 1) (omega (arith, high)) (omega (arith, twice, lt))
+    (λ k low. let m = pow-mono {i = k} {j = l} (omega (arith, low)) in omega (arith, m, is, le, some)))
+
+returns-2 : tie.Need-returns-2
+returns-2 c =
+    let width = c .before .before in
+    let w = width .largest-width .ensures in
+    let start = width .before .before in
+    let le = w .1 in
+    let lt = w .2 in
+    let more = width .before .if1 .left in
+    doubled (start .args .count) (width .largest-width .result .level) _ (start .pre) (w .0) le lt (omega (arith, le, lt, more))
 
 pub size-of-spec : {M : Type 1} → statement M
 size-of-spec =
     tie.close
-    (tie.spec Inv-loop μ-loop loop-holds mul-cap add-levels loop-less loop-again returns)
+    (tie.spec returns sub-largest-width largest-width-requires cast-t4 add-t5 mul-t6 returns-2)

@@ -16,8 +16,8 @@ use borrow.Author.Needs.{needs}
 use Rattle.board.proofs.search.find.Statement.{statement}
 use Rattle.board.proofs.search.find.Tie as tie
 
-sum-of-first-requires : tie.Need-sum-of-first-requires
-sum-of-first-requires c κs =
+quick-sum-of-first-requires : tie.Need-quick-sum-of-first-requires
+quick-sum-of-first-requires c κs =
     let at1 = c .before .before in
     let a = at1 .args in
     let holds = at1 .pre .0 in
@@ -52,7 +52,7 @@ returns c =
     let at4 = at3 .before .before .before in
     let a = at4 .args in
     let levels = ap (λ (l : ℕ). walked (l + 1) (a .board .now) 1 (a .p) none) (at4 .pre .0 .levels) in
-    let sum = sym levels ∙ climbs.told-good _ _ (so (at2 .sum .given .1) (at3 .sum-of-first .ensures)) in
+    let sum = sym levels ∙ climbs.told-good _ _ (so (at2 .sum .given .1) (at3 .quick-sum-of-first .ensures)) in
     sym (ap searchOf (searches.starts-stop (a .board .now) (a .starts .now) (a .count) (a .p) _ sum (searches.bad-starts (a .starts .now) (a .count) (a .p) (so (c .enum-told .given .1) (at1 .find-starts .ensures)))))
 
 is-unsound-requires : tie.Need-is-unsound-requires
@@ -61,7 +61,7 @@ is-unsound-requires c κs =
     let at2 = at1 .before .before in
     let at3 = at2 .before .before .before in
     let levels = ap (λ (l : ℕ). walked (l + 1) (at3 .args .board .now) 1 (at3 .args .p) none) (at3 .pre .0 .levels) in
-    let sum = sym levels ∙ climbs.told-good _ _ (so (at1 .sum .given .1) (at2 .sum-of-first .ensures)) in
+    let sum = sym levels ∙ climbs.told-good _ _ (so (at1 .sum .given .1) (at2 .quick-sum-of-first .ensures)) in
     searches.sum-in (levelsOf (at3 .args .count) + 1) (at3 .args .board .now) (at3 .args .p) _ sum
 
 returns-2 : tie.Need-returns-2
@@ -73,7 +73,7 @@ returns-2 c =
     let at5 = at4 .before .before .before in
     let a = at5 .args in
     let levels = ap (λ (l : ℕ). walked (l + 1) (a .board .now) 1 (a .p) none) (at5 .pre .0 .levels) in
-    let sum = sym levels ∙ climbs.told-good _ _ (so (at3 .sum .given .1) (at4 .sum-of-first .ensures)) in
+    let sum = sym levels ∙ climbs.told-good _ _ (so (at3 .sum .given .1) (at4 .quick-sum-of-first .ensures)) in
     let starts = searches.good-starts (a .starts .now) (a .count) (a .p) _ (so (at1 .found .given .1) (at2 .find-starts .ensures)) in
     sym (ap searchOf (searches.unsound-stop (a .board .now) (a .starts .now) (a .count) (a .p) _ sum _ starts (so (c .before .is-unsound .ensures) (c .if1 .taken))))
 
@@ -83,7 +83,7 @@ returns-3 c =
     let at2 = at1 .before .before .before in
     let a = at2 .args in
     let levels = ap (λ (l : ℕ). walked (l + 1) (a .board .now) 1 (a .p) none) (at2 .pre .0 .levels) in
-    sym (ap searchOf (searches.stops (a .board .now) (a .starts .now) (a .count) (a .p) _ (sym levels ∙ climbs.told-refused _ _ (so (c .before .number .given .1) (at1 .sum-of-first .ensures)))))
+    sym (ap searchOf (searches.stops (a .board .now) (a .starts .now) (a .count) (a .p) _ (sym levels ∙ climbs.told-refused _ _ (so (c .before .number .given .1) (at1 .quick-sum-of-first .ensures)))))
 
 returns-4 : tie.Need-returns-4
 returns-4 c =
@@ -94,7 +94,7 @@ returns-4 c =
     let at5 = at4 .before .before .before in
     let a = at5 .args in
     let levels = ap (λ (l : ℕ). walked (l + 1) (a .board .now) 1 (a .p) none) (at5 .pre .0 .levels) in
-    let sum = sym levels ∙ climbs.told-good _ _ (so (at3 .sum .given .1) (at4 .sum-of-first .ensures)) in
+    let sum = sym levels ∙ climbs.told-good _ _ (so (at3 .sum .given .1) (at4 .quick-sum-of-first .ensures)) in
     let starts = searches.good-starts (a .starts .now) (a .count) (a .p) _ (so (at1 .found .given .1) (at2 .find-starts .ensures)) in
     sym (ap searchOf (searches.finds (a .board .now) (a .starts .now) (a .count) (a .p) _ sum _ starts (so (c .before .is-unsound .ensures) (c .if1 .left))))
 
@@ -102,7 +102,7 @@ pub find-spec : {M : Type 1} → statement M
 find-spec =
     tie.close
     (tie.spec
-    sum-of-first-requires
+    quick-sum-of-first-requires
     enum-known-number
     enum-known-sum
     find-starts-requires

@@ -5,6 +5,7 @@ use native.Mathlib.Omega.{arith}
 use borrow.Author.Needs.{needs}
 use lib.ListN.{length}
 use Rattle.entries.specs.Words.{putEntry}
+use Rattle.entries.proofs.Limits.{sum-of-one}
 use Rattle.tree.specs.Build.{raised, Raises}
 use Rattle.tree.proofs.Builds.{Next, raise-next, raised-end}
 use Rattle.tree.proofs.build.raise.Statement.{statement}
@@ -45,7 +46,7 @@ read-both c =
     raise-next _ _ _ (l .e) (test .loop-test .taken) (read .load .ensures) (c .load2 .ensures) (l .inv .2)
 
 join-requires : tie.Need-join-requires Inv-loop μ-loop
-join-requires c κs = let n = read-both (c .before) in search needs
+join-requires c κs = let n = read-both (c .before) in (sum-of-one _ (n .0), n .1)
 
 store-requires : tie.Need-store-requires Inv-loop μ-loop
 store-requires c κs = search needs

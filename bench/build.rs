@@ -1,14 +1,12 @@
-//! Links the archive that `rt staticlib bench` writes.
+//! Notes the compiler's version for the page of results. The binding links the archive.
 
-use std::{env, path::Path};
+use std::{env, process::Command};
 
 fn main() {
-    let manifest = env::var("CARGO_MANIFEST_DIR").expect("cargo sets the manifest's folder");
-    let folder = Path::new(&manifest).join("../target/staticlib");
-    println!("cargo:rustc-link-search=native={}", folder.display());
-    println!("cargo:rustc-link-lib=static=bench");
-    println!(
-        "cargo:rerun-if-changed={}",
-        folder.join("libbench.a").display()
-    );
+    println!("cargo:rerun-if-changed=build.rs");
+    let compiler = env::var_os("RUSTC").expect("cargo sets RUSTC");
+    let said = Command::new(compiler).arg("--version").output();
+    let version = said.map(|said| String::from_utf8_lossy(&said.stdout).trim().to_owned());
+    let version = version.unwrap_or("an unknown rustc".to_owned());
+    println!("cargo:rustc-env=COMPILER={version}");
 }

@@ -128,7 +128,7 @@ pub enum Score {
     Bad,
 }
 
-fn origin_of(b: u64) -> Origin
+pub fn origin_of(b: u64) -> Origin
     ensures { λ r. ⌜ r ≡ originOf b ⌝ }
 {
     if b == 0 {
@@ -143,7 +143,7 @@ fn origin_of(b: u64) -> Origin
     Origin::Bad
 }
 
-fn score_of(present: u64, score: u32) -> Score
+pub fn score_of(present: u64, score: u32) -> Score
     ensures { λ r. ⌜ r ≡ scoreOf present score ⌝ }
 {
     if present == 1 {

@@ -1,0 +1,228 @@
+//! The maps, edits and plays that are measured.
+
+use oracle::{
+    encode::{self, encode},
+    generate::{mixed::mixed_map, objects, random::Random},
+    map::{MapFile, Object, ObjectKind, Play},
+};
+
+pub const SIZES: [usize; 4] = [10, 100, 1_000, 8_192];
+
+/// How many edits, and plays of a kind, are made for a map.
+pub const VARIED: usize = 1_024;
+
+/// How many of the last objects the plays that pass nearly all leave out at most.
+const NEARLY: usize = 64;
+
+pub struct Edit {
+    pub place: usize,
+    pub record: Vec<u8>,
+}
+
+/// A map of mixed objects with what is done to it.
+pub struct Case {
+    pub size: usize,
+    pub map: MapFile,
+    pub file: Vec<u8>,
+    pub edits: Vec<Edit>,
+    /// The map behind all edits, which the reads are of.
+    pub edited: MapFile,
+    pub all_passed: Vec<Play>,
+    pub spread: Vec<Play>,
+    pub nearly_all: Vec<Play>,
+}
+
+impl Case {
+    pub fn new(size: usize) -> Self {
+        let r = &mut Random::new(2, size as u64);
+        let map = mixed_map(size);
+        let mut edited = map.clone();
+        let edits: Vec<Edit> = (0..VARIED).map(|_| edit(r, &mut edited)).collect();
+        let combos = combos(&edited);
+        let mut plays = |passed: &mut dyn FnMut(&mut Random) -> usize| {
+            let play = |_| {
+                let passed = passed(r);
+                play(r, passed, combos[passed])
+            };
+            (0..VARIED).map(play).collect::<Vec<Play>>()
+        };
+        Self {
+            size,
+            file: encode(&map),
+            map,
+            edits,
+            all_passed: plays(&mut |_| size),
+            spread: plays(&mut |r| r.between(1, size as u64) as usize),
+            nearly_all: (1..=NEARLY.min(size / 2))
+                .map(|left| regular_play(size - left, combos[size - left]))
+                .collect(),
+            edited,
+        }
+    }
+}
+
+/// Different maps of a size, of so many objects together that no branch predictor learns them.
+pub fn different_maps(size: usize) -> Vec<MapFile> {
+    let r = &mut Random::new(5, size as u64);
+    let count = 32_768_usize.div_ceil(size);
+    (0..count).map(|_| different_map(r, size)).collect()
+}
+
+fn different_map(r: &mut Random, size: usize) -> MapFile {
+    let mut map = mixed_map(size);
+    map.objects = (0..size).map(|place| object(r, place)).collect();
+    map.plays = vec![play(r, size, combos(&map)[size])];
+    map
+}
+
+/// Another object at any place.
+fn edit(r: &mut Random, map: &mut MapFile) -> Edit {
+    let place = r.below(map.objects.len() as u64) as usize;
+    let object = object(r, place);
+    let mut record = Vec::new();
+    encode::object(&mut record, &object);
+    map.objects[place] = object;
+    Edit { place, record }
+}
+
+/// An object that starts in the place's third of a second.
+fn object(r: &mut Random, place: usize) -> Object {
+    Object {
+        start: 300.0 * place as f64 + r.below(300) as f64,
+        kind: kind(r),
+    }
+}
+
+/// In the parts that the map has: of 20 objects 11 circles, 8 sliders and a spinner.
+fn kind(r: &mut Random) -> ObjectKind {
+    match r.below(20) {
+        0..11 => ObjectKind::Circle,
+        11..19 => {
+            let length = r.between(1, 6) as usize;
+            objects::slider(r, length)
+        }
+        _ => ObjectKind::Spinner {
+            duration: r.between(1_000, 4_000) as f64,
+        },
+    }
+}
+
+/// The max combo of the first objects, for each count of them.
+fn combos(map: &MapFile) -> Vec<u32> {
+    let gains = map.objects.iter().map(Object::combo_gain);
+    let sums = gains.scan(0, |sum, gain| {
+        *sum += gain;
+        Some(*sum)
+    });
+    [0].into_iter().chain(sums).collect()
+}
+
+/// A play with a score, so that a read works out each estimate.
+fn play(r: &mut Random, passed: usize, combo: u32) -> Play {
+    let mut few = || r.between(0, passed as u64 / 8) as u16;
+    let (n100, n50, misses) = (few(), few(), few());
+    Play {
+        passed: passed as u16,
+        max_combo: r.between(0, combo.into()) as u32,
+        n300: passed as u16 - n100 - n50 - misses,
+        n100,
+        n50,
+        misses,
+        score: Some(r.between(1, 2_000 * passed as u64) as u32),
+        flags: r.pick(&[0, 1, 4, 8, 12, 16]),
+        clock_rate: r.pick(&[0.75, 1.0, 1.5]),
+        ..Play::default()
+    }
+}
+
+/// A play in which only the passed objects, the combo and the score differ from one to the next.
+fn regular_play(passed: usize, combo: u32) -> Play {
+    Play {
+        passed: passed as u16,
+        max_combo: combo / 2,
+        n300: passed as u16 - 3,
+        n100: 1,
+        n50: 1,
+        misses: 1,
+        score: Some(1_000 * passed as u32),
+        flags: 4,
+        ..Play::default()
+    }
+}
+
+/// Which of some items comes next, for ever.
+#[derive(Clone)]
+pub struct Turns {
+    order: Vec<u16>,
+    at: usize,
+}
+
+impl Turns {
+    /// Picks at random, far more than a branch predictor remembers.
+    pub fn random(items: usize) -> Self {
+        let mut r = Random::new(3, items as u64);
+        Self {
+            order: (0..65_536).map(|_| r.below(items as u64) as u16).collect(),
+            at: 0,
+        }
+    }
+
+    pub fn in_order(items: usize) -> Self {
+        Self {
+            order: (0..items as u16).collect(),
+            at: 0,
+        }
+    }
+
+    #[inline]
+    pub fn next(&mut self) -> usize {
+        let item = self.order[self.at];
+        self.at += 1;
+        if self.at == self.order.len() {
+            self.at = 0;
+        }
+        item.into()
+    }
+}
+
+/// A file for the speed of reading.
+pub struct File {
+    pub name: &'static str,
+    pub objects: usize,
+    pub bytes: Vec<u8>,
+}
+
+/// A file of about 60 KB and one of as many objects as a map may have, of each kind.
+pub fn files() -> Vec<File> {
+    let circles: fn(usize) -> MapFile = |size| map_of(size, |_| ObjectKind::Circle);
+    let mixed = |size| MapFile {
+        plays: Vec::new(),
+        ..mixed_map(size)
+    };
+    let long = |size| map_of(size, |r| objects::slider(r, 200));
+    let kinds = [
+        ("circles", 6_000, circles),
+        ("mixed objects", 4_760, mixed),
+        ("sliders of 200 nested items", 283, long),
+    ];
+    let file = |(name, size, map): (&'static str, usize, fn(usize) -> MapFile)| {
+        [size, 8_192].map(|size| File {
+            name,
+            objects: size,
+            bytes: encode(&map(size)),
+        })
+    };
+    kinds.into_iter().flat_map(file).collect()
+}
+
+fn map_of(size: usize, kind: fn(&mut Random) -> ObjectKind) -> MapFile {
+    let r = &mut Random::new(4, size as u64);
+    let object = |place| Object {
+        start: 300.0 * place as f64,
+        kind: kind(r),
+    };
+    MapFile {
+        objects: (0..size).map(object).collect(),
+        ..MapFile::default()
+    }
+}

@@ -1,0 +1,4 @@
+pub mod Status
+pub mod Map
+pub mod Play
+pub mod Answer

@@ -1,0 +1,129 @@
+// The engine for hosts in C and Rust: numbers, slices and #[repr(C)] structs by value. No function asks anything of its caller but valid slices
+// that do not overlap.
+mod answer; // the values of a map and of a play
+mod map; // settings, and what a map file holds
+mod play; // a play as a host gives it
+mod status; // what a call that writes answers
+
+use crate::answer::MapAnswer;
+use crate::answer::PlayAnswer;
+use crate::answer::given_answer_of;
+use crate::answer::listed_answer_of;
+use crate::answer::map_answer_of;
+use crate::map::HostSettings;
+use crate::map::MapInfo;
+use crate::map::map_info_of;
+use crate::map::settings_in;
+use crate::play::HostPlay;
+use crate::play::play_in;
+use crate::status::Status;
+use crate::status::status_of;
+use board::build::build;
+use board::edit::edit;
+use board::read::read;
+use entries::entry::Entry;
+use records::file::read_map;
+use records::hit_object::HitObject;
+use scoring::score::score_map;
+use scoring::score::score_play;
+use scoring::score::score_play_at;
+use tree::size_of;
+ghost use mathlib.Core.Path.{_≡_};
+ghost use Rattle.records.specs.File.{fileOf};
+ghost use Rattle.records.specs.View.{answerOf};
+ghost use Rattle.scoring.specs.Scores.{scoresOf, mapScoreOf, givenAnswer, givenPlayOf, listedPlayOf};
+ghost use Rattle.board.specs.Place.{writtenLeft};
+ghost use Rattle.board.specs.Build.{built};
+ghost use Rattle.board.specs.Edit.{editOf};
+ghost use Rattle.board.specs.Read.{readOf};
+ghost use Rattle.popejoanplum.specs.Status.{boardWords, statusLeft};
+ghost use Rattle.popejoanplum.specs.Map.{settingsIn, mapInfoOf};
+ghost use Rattle.popejoanplum.specs.Play.{playIn};
+ghost use Rattle.popejoanplum.specs.Answer.{mapAnswerOf, givenAnswerOf, listedAnswerOf};
+
+// How many words a board for as many objects has; 0 where no map has as many.
+#[no_mangle]
+pub extern "C" fn pjp_board_words(count: usize) -> usize
+    ensures { λ r. ⌜ r ≡ boardWords count ⌝ }
+{
+    if (HitObject::MAX_COUNT as usize) < count {
+        return 0;
+    }
+    2 * Entry::WORDS * size_of(count).cap
+}
+
+// What a map file holds, by the checks of its records; 9 and 10 of its plays are left to the calls that score.
+#[no_mangle]
+pub extern "C" fn pjp_read_map(file: &[u8]) -> MapInfo
+    ensures { λ r. ⌜ r ≡ mapInfoOf (answerOf (fileOf (now (file .entry)))) ⌝ }
+{
+    map_info_of(read_map(file))
+}
+
+// The attributes of all objects.
+#[no_mangle]
+pub extern "C" fn pjp_score_map(file: &[u8]) -> MapAnswer
+    ensures { λ r. ⌜ r ≡ mapAnswerOf (mapScoreOf (scoresOf (fileOf (now (file .entry))))) ⌝ }
+{
+    map_answer_of(score_map(file))
+}
+
+// A play that is given beside the file.
+#[no_mangle]
+pub extern "C" fn pjp_score_play(file: &[u8], play: HostPlay) -> PlayAnswer
+    ensures { λ r. ⌜ r ≡ givenAnswerOf (givenPlayOf (playIn play) (scoresOf (fileOf (now (file .entry))))) ⌝ }
+{
+    given_answer_of(score_play(file, play_in(play)))
+}
+
+// The play at an index of the file.
+#[no_mangle]
+pub extern "C" fn pjp_score_play_at(file: &[u8], index: u64) -> PlayAnswer
+    ensures { λ r. ⌜ r ≡ listedAnswerOf (listedPlayOf index (scoresOf (fileOf (now (file .entry))))) ⌝ }
+{
+    listed_answer_of(score_play_at(file, index))
+}
+
+// The board and the start table of a map file.
+#[no_mangle]
+pub extern "C" fn pjp_build(file: &[u8], board: &mut [u64], starts: &mut [f64]) -> Status
+    ensures { λ r. ⌜ (r, now (board .exit), now (starts .exit)) ≡ statusLeft (built (scoresOf (fileOf (now (file .entry)))) (now (board .entry)) (now (starts .entry))) ⌝ }
+{
+    status_of(build(file, board, starts))
+}
+
+// Another object at a place of a board for `count` objects.
+#[no_mangle]
+pub extern "C" fn pjp_edit(
+    board: &mut [u64],
+    starts: &mut [f64],
+    count: usize,
+    place: usize,
+    record: &[u8],
+) -> Status
+    ensures { λ r. ⌜ (r, now (board .exit), now (starts .exit)) ≡ statusLeft (writtenLeft (editOf (now (board .entry)) (now (starts .entry)) count place (now («record» .entry))) (now (board .entry)) (now (starts .entry))) ⌝ }
+{
+    status_of(edit(board, starts, count, place, record))
+}
+
+// A play on the first objects of a board for `count` objects.
+#[no_mangle]
+pub extern "C" fn pjp_read(
+    board: &[u64],
+    starts: &[f64],
+    count: usize,
+    settings: HostSettings,
+    breaks: &[f64],
+    play: HostPlay,
+) -> PlayAnswer
+    ensures { λ r. ⌜ r ≡ givenAnswerOf (givenAnswer (readOf (now (board .entry)) (now (starts .entry)) count (settingsIn settings) (now (breaks .entry)) (playIn play))) ⌝ }
+{
+    given_answer_of(read(
+        board,
+        starts,
+        count,
+        settings_in(settings),
+        breaks,
+        play_in(play),
+    ))
+}

@@ -4,7 +4,9 @@ use mathlib.Core.Path.{_≡_}
 use mathlib.Core.List.{List, _++_}
 use lib.Ieee.{Float}
 use lib.ListN.{length, drop, set}
+use Rattle.records.specs.Refusals.{good, refused}
 use Rattle.records.specs.Objects.{Object}
+use Rattle.records.specs.Records.{Found, contentView}
 use Rattle.records.specs.File.{File, Result, accepted, refusedAt}
 use Rattle.records.specs.declared.record.Record.{Record}
 use Rattle.records.specs.declared.record.Record.the-variants as record·case
@@ -27,6 +29,19 @@ recordLaid cap place (record·case.Header s) b ts = (b, ts)
 recordLaid cap place (record·case.Break x) b ts = (b, ts)
 recordLaid cap place (record·case.Object o) b ts = (putEntry b (cap + place) (ownEntry (o .kind)), set ts place (o .«start_time»))
 recordLaid cap place (record·case.Play p) b ts = (b, ts)
+
+-- what the record that was found lays, if it was, and its size
+abbrev pub LaysFound : ℕ → ℕ → Found → List ℕ → List Float → Type 0
+LaysFound cap place (refused n) b ts = Unit
+LaysFound cap place (good f) b ts = LaysRecord cap place (contentView (f .0)) b ts
+
+abbrev pub foundLaid : ℕ → ℕ → Found → List ℕ → List Float → ℕ × List ℕ × List Float
+foundLaid cap place (refused n) b ts = (0, b, ts)
+foundLaid cap place (good f) b ts = let after = recordLaid cap place (contentView (f .0)) b ts in (f .1, after .0, after .1)
+
+abbrev pub foundSize : Found → ℕ
+foundSize (refused n) = 0
+foundSize (good f) = f .1
 
 -- an accepted file, and room for its objects
 pub record Lays (cap : ℕ) (r : Result) (b : List ℕ) (ts : List Float) : Type 0 where

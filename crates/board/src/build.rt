@@ -4,33 +4,67 @@ use crate::place::Written;
 use crate::place::room_for;
 use entries::entry::Entry;
 use entries::words::store;
-use records::file::Reader;
-use records::file::Step;
-use records::file::read_record;
+use numbers::words::word_at;
+use records::file::rank_of;
+use records::file::read_body;
+use records::hit_object::read_object;
+use records::record::Read;
 use records::record::Record;
 use scoring::plays::Plays;
 use scoring::plays::check_plays;
 use tree::build::fill;
 ghost use mathlib.Core.Path.{_≡_};
+ghost use Rattle.records.specs.Records.{objectOf};
+ghost use Rattle.records.specs.Order.{bodyOf};
 ghost use Rattle.records.specs.File.{fileOf};
 ghost use Rattle.scoring.specs.Scores.{scoresOf};
 ghost use Rattle.board.specs.Build.{built};
-ghost use Rattle.board.specs.Laying.{LaysRecord, recordLaid, Lays, objectsLaid};
+ghost use Rattle.board.specs.Laying.{LaysRecord, recordLaid, LaysFound, foundLaid, foundSize, Lays, objectsLaid};
 
 // An object's own entry and its start at its place; other records have neither.
-fn lay_record(board: &mut [u64], starts: &mut [f64], cap: usize, place: u64, item: Record)
+fn lay_record(board: &mut [u64], starts: &mut [f64], cap: usize, place: usize, item: Record)
     requires { ⌜ LaysRecord cap place item (now board) (now starts) ⌝ }
     ensures { λ _. ⌜ (now (board .exit), now (starts .exit)) ≡ recordLaid cap place item (now (board .entry)) (now (starts .entry)) ⌝ }
 {
     match item {
         Record::Object(object) => {
-            let at = place as usize;
-            store(board, cap + at, Entry::own(object));
-            starts[at] = object.start_time;
+            store(board, cap + place, Entry::own(object));
+            starts[place] = object.start_time;
         }
         Record::Header(_) => {}
         Record::Break(_) => {}
         Record::Play(_) => {}
+    }
+}
+
+// Lays the object that r starts with, and gives its size. An accepted file's records need no second check of their order and counts.
+fn lay_object(
+    r: &[u8],
+    mark: u64,
+    board: &mut [u64],
+    starts: &mut [f64],
+    cap: usize,
+    place: usize,
+) -> usize
+    requires { ⌜ LaysFound cap place (objectOf (now r) mark) (now board) (now starts) ⌝ }
+    ensures { λ x. ⌜ (x, now (board .exit), now (starts .exit)) ≡ foundLaid cap place (objectOf (now (r .entry)) mark) (now (board .entry)) (now (starts .entry)) ⌝ }
+{
+    match read_object(r, mark) {
+        Read::Refused(_) => 0,
+        Read::Good(item, size) => {
+            lay_record(board, starts, cap, place, item);
+            size
+        }
+    }
+}
+
+// The size of the record that r starts with.
+fn size_of(r: &[u8], mark: u64) -> usize
+    ensures { λ x. ⌜ x ≡ foundSize (bodyOf (now (r .entry)) mark) ⌝ }
+{
+    match read_body(r, mark) {
+        Read::Refused(_) => 0,
+        Read::Good(_, size) => size,
     }
 }
 
@@ -39,19 +73,16 @@ fn lay(file: &[u8], board: &mut [u64], starts: &mut [f64], cap: usize)
     requires { ⌜ Lays cap (fileOf (now file)) (now board) (now starts) ⌝ }
     ensures { λ _. ⌜ (now (board .exit), now (starts .exit)) ≡ objectsLaid cap (fileOf (now (file .entry))) (now (board .entry)) (now (starts .entry)) ⌝ }
 {
-    let mut reader = Reader::new();
-    while reader.at < file.len() {
-        match read_record(file, reader) {
-            Step::Refused {
-                number: _,
-                offset: _,
-            } => {
-                return;
-            }
-            Step::Next(item, next) => {
-                lay_record(board, starts, cap, reader.counts.objects, item);
-                reader = next;
-            }
+    let mut at = 0;
+    let mut place = 0;
+    while at < file.len() {
+        let r = &file[at..];
+        let mark = word_at(r, 0, 2);
+        if rank_of(mark) == 3 {
+            at += lay_object(r, mark, board, starts, cap, place);
+            place += 1;
+        } else {
+            at += size_of(r, mark);
         }
     }
 }

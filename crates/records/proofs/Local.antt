@@ -160,6 +160,10 @@ passed r c f e =
     good-is : {a b : Content × ℕ} → _≡_ {A = Found} (good a) (good b) → a ≡ b
     good-is e = cc
 
+-- a record that is found is the one of its mark
+pub record-body : (r : List ℕ) (c : Counts) (f : Content × ℕ) → recordOf r c ≡ good f → bodyOf r (wordAt r 0 2) ≡ good f
+record-body r c f e = passed r c f e .body
+
 -- a record that is found in a whole is found in each part that holds it
 pub record-in : (p t : List ℕ) (c : Counts) (f : Content × ℕ) → recordOf (p ++ t) c ≡ good f → 2 ≤ f .1 → f .1 ≤ length p → recordOf p c ≡ good f
 unfolding recordOf _>>=_ _>>_ refuse_when_

@@ -25,7 +25,7 @@ placeOf (object o) = 3
 placeOf (play p) = 4
 
 -- a record's content is of its mark's place
-abbrev Placed : ℕ → Content × ℕ → Type 0
+abbrev pub Placed : ℕ → Content × ℕ → Type 0
 Placed m f = placeOf (f .0) ≡ rankOf m
 
 object-placed : (r : List ℕ) (m : ℕ) → eqb m MH ≡ false → eqb m BR ≡ false → All (Placed m) (objectOf r m)
@@ -35,7 +35,7 @@ object-placed r m n₁ n₂ =
     all-pick (eqb m SL) (λ e. all-when 2 _ _ (λ _. all-any _ _ (λ a. all-when 6 _ _ (λ _. all-when 2 _ _ (λ _. all-any _ _ (λ is. that (simp (n₁, n₂, n₃, e)))))))) (λ n₄.
     all-pick (eqb m SP) (λ e. all-when 2 _ _ (λ _. all-any _ _ (λ a. all-any _ _ (λ b. that (simp (n₁, n₂, n₃, n₄, e)))))) (λ _. none)))
 
-body-placed : (r : List ℕ) (m : ℕ) → All (Placed m) (bodyOf r m)
+pub body-placed : (r : List ℕ) (m : ℕ) → All (Placed m) (bodyOf r m)
 unfolding bodyOf headerOf breakOf playOf
 body-placed r m =
     all-pick (eqb m MH) (λ e. all-when 2 _ _ (λ _. all-any _ _ (λ hp. all-any _ _ (λ od. all-any _ _ (λ cs. that (simp e)))))) (λ n₁.

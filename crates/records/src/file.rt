@@ -76,7 +76,7 @@ impl Reader {
 }
 
 // The place of a mark in the order of the records, and 0 for an unknown one.
-fn rank_of(mark: u64) -> u8
+pub fn rank_of(mark: u64) -> u8
     ensures { λ r. ⌜ r ≡ rankOf mark ⌝ }
 {
     if mark == MH {
@@ -121,7 +121,7 @@ fn is_full(c: Counts, rank: u8) -> bool
     false
 }
 
-fn read_body(r: &[u8], mark: u64) -> Read
+pub fn read_body(r: &[u8], mark: u64) -> Read
     ensures { λ x. ⌜ x ≡ readOf (bodyOf (now (r .entry)) mark) ⌝ }
 {
     if mark == MH {

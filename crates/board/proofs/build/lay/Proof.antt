@@ -1,93 +1,133 @@
--- `lay` is right since each record of an accepted file is read, and its object is laid where the definition lays it.
-use Prim.Native.Nat.{_-_}
+-- `lay` is right since each record of an accepted file is found by its mark, and its object is laid where the definition lays it.
+use mathlib.Core.Path.{_≡_, sym, _∙_}
+use Prim.Native.Nat.{_+_, _-_, _<_}
 use native.Mathlib.Omega.{arith}
 use borrow.Author.Needs.{needs}
 use lib.ListN.{length}
-use Rattle.records.proofs.Laws.{so}
-use Rattle.board.proofs.LayingRight.{SoFar, laying-start, same-words, same-numbers, no-stop, laying-room, laying-step, laying-ahead, laying-end}
+use Rattle.records.specs.Order.{rankOf}
+use Rattle.records.proofs.Steps.{rest-is}
+use Rattle.board.proofs.LayingRight.{SoFar, Ahead, laying-start, same-words, same-numbers, laying-room, object-ahead, object-low, laying-object, other-ahead, laying-other, laying-end}
 use Rattle.board.proofs.build.lay.Statement.{statement}
 use Rattle.board.proofs.build.lay.Tie as tie
 
 abbrev Inv-loop : tie.InvT-loop
-Inv-loop file board₀ starts₀ cap reader₀ board starts reader = SoFar file cap board₀ starts₀ reader board starts
+Inv-loop file board₀ starts₀ cap at₀ place₀ board starts at place = SoFar file cap board₀ starts₀ at place board starts
 
 abbrev μ-loop : tie.MeasureT-loop
-μ-loop file board₀ starts₀ cap reader₀ board starts reader = length file - reader .at
-
-new-requires : tie.Need-new-requires Inv-loop μ-loop
-new-requires c κs = search needs
+μ-loop file board₀ starts₀ cap at₀ place₀ board starts at place = length file - at
 
 loop-holds : tie.Need-loop-holds Inv-loop μ-loop
 loop-holds c =
-    let a = c .before .before .before .before .args in
-    rw (c .new .ensures) (laying-start (a .file .now) (a .cap) (a .board .now) (a .starts .now))
+    let a = c .before .before .before .args in
+    laying-start (a .file .now) (a .cap) (a .board .now) (a .starts .now)
 
-read-record-requires : tie.Need-read-record-requires Inv-loop μ-loop
-read-record-requires c κs = search needs
+sub-r : tie.Need-sub-r Inv-loop μ-loop
+sub-r c = search needs
 
-enum-told : tie.Need-enum-told Inv-loop μ-loop
-enum-told c = search needs
+part-r-start : tie.Need-part-r-start Inv-loop μ-loop
+part-r-start c = search needs
 
-same-length : tie.Need-same-length Inv-loop μ-loop
-same-length c =
-    let kept = c .before .before .before .before .before in
-    same-words (kept .before .before .before .before .before .pre) (kept .loop .inv)
+part-r-end : tie.Need-part-r-end Inv-loop μ-loop
+part-r-end c = search needs
 
-same-length-2 : tie.Need-same-length-2 Inv-loop μ-loop
-same-length-2 c =
-    let kept = c .before .before .before .before .before in
-    same-numbers (kept .before .before .before .before .before .pre) (kept .loop .inv)
+word-at-requires : tie.Need-word-at-requires Inv-loop μ-loop
+word-at-requires c κs = search needs
 
-returns : tie.Need-returns Inv-loop μ-loop
-returns c =
-    let found = c .before .before in
-    let more = found .before in
-    let kept = more .before .before in
-    no-stop (kept .before .before .before .before .before .pre) (kept .loop .inv) (more .if1 .taken) _ _
-    (so (c .enum-told .given .1) (found .read-record .ensures))
+rank-of-requires : tie.Need-rank-of-requires Inv-loop μ-loop
+rank-of-requires c κs = search needs
 
-enum-known-item : tie.Need-enum-known-item Inv-loop μ-loop
-enum-known-item c = search needs
+lay-object-requires : tie.Need-lay-object-requires Inv-loop μ-loop
+lay-object-requires c κs =
+    let object = c .before .before in
+    let ranked = object .before in
+    let read = ranked .before in
+    let more = read .before .before in
+    let kept = more .before in
+    let start = kept .before .before .before .before in
+    laying-room (start .pre) (kept .loop .inv) (more .loop-test .taken) (rest-is (start .args .file .now) (kept .loop .at)) (read .word-at .ensures .0)
+    (sym (ranked .rank-of .ensures) ∙ object .if1 .taken)
 
-lay-record-requires : tie.Need-lay-record-requires Inv-loop μ-loop
-lay-record-requires c κs =
-    let next = c .before .before .before in
-    let found = next .before .before in
-    let more = found .before in
-    let kept = more .before .before in
-    laying-room (kept .before .before .before .before .before .pre) (kept .loop .inv) (more .if1 .taken) _ _
-    (so (next .item .given .1) (found .read-record .ensures))
+-- behind an object
+object-next : (c : tie.After-slice-known4 Inv-loop μ-loop) →
+    let laid = c .before .before .before .before in
+    let kept = laid .before .before .before .before .before .before .before .before in
+    let a = kept .before .before .before .before .args in
+    Ahead (a .file .now) (kept .loop .at) (laid .lay-object .result) × (kept .loop .place < a .cap)
+object-next c =
+    let laid = c .before .before .before .before in
+    let object = laid .before .before .before in
+    let ranked = object .before in
+    let read = ranked .before in
+    let more = read .before .before in
+    let kept = more .before in
+    let start = kept .before .before .before .before in
+    let rest = rest-is (start .args .file .now) (kept .loop .at) in
+    let third = sym (ranked .rank-of .ensures) ∙ object .if1 .taken in (
+      object-ahead (start .pre) (kept .loop .inv) (more .loop-test .taken) rest (read .word-at .ensures .0) third (laid .lay-object .ensures),
+      object-low (start .pre) (kept .loop .inv) (more .loop-test .taken) rest (read .word-at .ensures .0) third,
+    )
+
+add-at : tie.Need-add-at Inv-loop μ-loop
+add-at c = let next = object-next c .0 in omega (arith, next .inside)
+
+add-place : tie.Need-add-place Inv-loop μ-loop
+add-place c = let low = object-next c .1 in omega (arith, low)
 
 loop-less : tie.Need-loop-less Inv-loop μ-loop
-loop-less c =
-    let next = c .before .before .before .before .before .before .before .before in
-    let found = next .before .before in
-    let more = found .before in
-    let kept = more .before .before in
-    let h = more .if1 .taken in
-    let e = so (next .item .given .1) (found .read-record .ensures) in
-    let a = laying-ahead (kept .before .before .before .before .before .pre) (kept .loop .inv) h _ _ e in
-    omega (arith, a, h)
+loop-less c = let next = object-next c .0 in omega (arith, next .far, next .inside)
 
 loop-again : tie.Need-loop-again Inv-loop μ-loop
 loop-again c =
     let laid = c .before .before .before .before in
-    let next = laid .before .before .before .before in
-    let found = next .before .before in
-    let more = found .before in
-    let kept = more .before .before in
-    laying-step (kept .before .before .before .before .before .pre) (kept .loop .inv) (more .if1 .taken) _ _
-    (so (next .item .given .1) (found .read-record .ensures))
-    _ _ (laid .lay-record .ensures)
+    let object = laid .before .before .before in
+    let ranked = object .before in
+    let read = ranked .before in
+    let more = read .before .before in
+    let kept = more .before in
+    let start = kept .before .before .before .before in
+    laying-object (start .pre) (kept .loop .inv) (more .loop-test .taken) (rest-is (start .args .file .now) (kept .loop .at)) (read .word-at .ensures .0)
+    (sym (ranked .rank-of .ensures) ∙ object .if1 .taken)
+    (laid .lay-object .ensures)
 
-same-length-3 : tie.Need-same-length-3 Inv-loop μ-loop
-same-length-3 c = same-words (c .before .before .before .before .before .before .before .pre) (c .before .before .loop .inv)
+size-of-requires : tie.Need-size-of-requires Inv-loop μ-loop
+size-of-requires c κs = search needs
 
-same-length-4 : tie.Need-same-length-4 Inv-loop μ-loop
-same-length-4 c = same-numbers (c .before .before .before .before .before .before .before .pre) (c .before .before .loop .inv)
+-- behind a record that is no object
+other-next : (c : tie.After-size-of Inv-loop μ-loop) →
+    let kept = c .before .before .before .before .before .before in
+    let a = kept .before .before .before .before .args in
+    Ahead (a .file .now) (kept .loop .at) (c .size-of .result)
+    × SoFar (a .file .now) (a .cap) (a .board .now) (a .starts .now) (kept .loop .at + c .size-of .result) (kept .loop .place) (kept .loop .board) (kept .loop .starts)
+other-next c =
+    let other = c .before in
+    let ranked = other .before in
+    let read = ranked .before in
+    let more = read .before .before in
+    let kept = more .before in
+    let start = kept .before .before .before .before in
+    let rest = rest-is (start .args .file .now) (kept .loop .at) in
+    let apart : rankOf (read .word-at .result) ≡ 3 → ⊥ = λ e. other .if1 .left (ranked .rank-of .ensures ∙ e) in (
+      other-ahead (start .pre) (kept .loop .inv) (more .loop-test .taken) rest (read .word-at .ensures .0) apart (c .size-of .ensures),
+      laying-other (start .pre) (kept .loop .inv) (more .loop-test .taken) rest (read .word-at .ensures .0) apart (c .size-of .ensures),
+    )
 
-returns-2 : tie.Need-returns-2 Inv-loop μ-loop
-returns-2 c = laying-end (c .before .before .before .before .before .before .before .pre) (c .before .before .loop .inv) (c .if1 .left)
+add-at-2 : tie.Need-add-at-2 Inv-loop μ-loop
+add-at-2 c = let next = other-next c .0 in omega (arith, next .inside)
+
+loop-less-2 : tie.Need-loop-less-2 Inv-loop μ-loop
+loop-less-2 c = let next = other-next c .0 in omega (arith, next .far, next .inside)
+
+loop-again-2 : tie.Need-loop-again-2 Inv-loop μ-loop
+loop-again-2 c = other-next c .1
+
+same-length : tie.Need-same-length Inv-loop μ-loop
+same-length c = same-words (c .before .before .before .before .before .pre) (c .before .loop .inv)
+
+same-length-2 : tie.Need-same-length-2 Inv-loop μ-loop
+same-length-2 c = same-numbers (c .before .before .before .before .before .pre) (c .before .loop .inv)
+
+returns : tie.Need-returns Inv-loop μ-loop
+returns c = laying-end (c .before .before .before .before .before .pre) (c .before .loop .inv) (c .loop-test .left)
 
 pub lay-spec : {M : Type 1} → statement M
 lay-spec =
@@ -95,17 +135,21 @@ lay-spec =
     (tie.spec
     Inv-loop
     μ-loop
-    new-requires
     loop-holds
-    read-record-requires
-    enum-told
-    same-length
-    same-length-2
-    returns
-    enum-known-item
-    lay-record-requires
+    sub-r
+    part-r-start
+    part-r-end
+    word-at-requires
+    rank-of-requires
+    lay-object-requires
+    add-at
+    add-place
     loop-less
     loop-again
-    same-length-3
-    same-length-4
-    returns-2)
+    size-of-requires
+    add-at-2
+    loop-less-2
+    loop-again-2
+    same-length
+    same-length-2
+    returns)

@@ -1,4 +1,5 @@
 pub mod Rules
+pub mod Listings
 pub mod Maps
 pub mod EditRight
 pub mod SoundWords

@@ -20,12 +20,19 @@ use Rattle.scoring.specs.PlayRules.{exceeds, overCombo, playScore}
 use Rattle.scoring.specs.Scores.{Outcome, refusal, values, at-offset, then, Scores, playScoreOn, playScores, scoresOf}
 use Rattle.scoring.specs.declared.play_score.PlayScore.{PlayScore}
 use Rattle.scoring.proofs.Answers.{no-number}
+use Rattle.listing.specs.Listing.{inputText, listedOf}
+use Rattle.listing.specs.declared.Listed.the-variants as listed
 use Rattle.demands.specs.Calls.{Claim}
 use Rattle.demands.proofs.Rules.{IsRule, refusal-rule}
+use Rattle.demands.proofs.Listings.{listing-told}
 use Rattle.demands.proofs.CallsRight.{calls-right}
 use Rattle.records.proofs.Laws.{never}
 
 -- ---- Demand 1
+-- "Fed anything, the program finishes", with its listing: the text of every input leaves room in the program's space of 262,144 bytes
+pub every-listing-fits : (s : List ℕ) → listedOf (inputText s) 262144 ≡ listed.Text (length (inputText s))
+every-listing-fits = listing-told
+
 -- "An input that breaks a rule of document 01 gets that rule's number": a refusal's number is that of a rule, 2 to 10 (1 is the program's own).
 -- Which rule it is, `recordOf` and `playScore` say check by check.
 pub refused-by-a-rule : (s : List ℕ) (n at : ℕ) → scoresOf (fileOf s) ≡ refusal n at → IsRule n

@@ -1,6 +1,5 @@
 // The listing program of document 01: a map file on standard input, its listing on standard output. A program cannot choose its exit status: where
 // input or output fails, it says so on standard error and lists nothing, or nothing more.
-use libc::STDERR_FILENO;
 use libc::STDIN_FILENO;
 use libc::STDOUT_FILENO;
 use listing::Listed;
@@ -11,7 +10,7 @@ ghost use Rattle.list.specs.Places.{MovedWithin, InputWithin};
 // One byte more than document 01 takes, so that a longer input is told and no further byte is read.
 const INPUT: usize = 65537;
 
-// 65,536 bytes hold a header and at most 1,489 plays, and a line of the listing has at most 94 bytes.
+// More than any listing has: 65,536 bytes hold at most 1,489 plays, whose lines have at most 94 bytes, as the map's has at most 164.
 const LISTING: usize = 262144;
 
 // What a call that moves bytes did: the place behind them, which is the old place where a signal came first; nothing is left; or an error.
@@ -115,9 +114,10 @@ fn write_text(text: &[u8]) -> bool {
     false
 }
 
-fn tell_no_room() {
-    io::write_all(STDERR_FILENO, b"the listing is longer than its space\n");
-}
+// A place that no run comes to.
+fn never()
+    requires { ⌜ ⊥ ⌝ }
+{}
 
 fn list(input: &[u8]) {
     let mut space = [0u8; LISTING];
@@ -127,8 +127,8 @@ fn list(input: &[u8]) {
                 os::fail(b"standard output");
             }
         }
-        // The space is longer than any listing.
-        Listed::NoRoom => tell_no_room(),
+        // The space is longer than any listing: `listing-told` of demands/proofs/Listings.
+        Listed::NoRoom => never(),
     }
 }
 

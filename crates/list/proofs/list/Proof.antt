@@ -5,16 +5,17 @@ use Prim.Native.Nat.{ℕ, _≤_, _<_}
 use native.Mathlib.Nat.{le-of-lt}
 use mathlib.Core.Bool.{Bool, true, false}
 use lib.Dec.{ltb}
-use lib.ListN.{length}
+use lib.ListN.{length, length-replicate}
 use lib.Seq.{length-take-le}
 use borrow.Author.Tests.{ltb-true}
 use Rattle.text.proofs.Space.{length-put}
 use Rattle.records.specs.Refusals.{pick}
-use Rattle.records.proofs.Laws.{so}
+use Rattle.records.proofs.Laws.{so, never}
 use denote.Ref.{now}
 use Rattle.listing.specs.Listing.{inputText, listedOf}
 use Rattle.listing.specs.declared.Listed.{Listed}
 use Rattle.listing.specs.declared.Listed.the-variants as listed
+use Rattle.demands.proofs.Listings.{listing-told}
 use borrow.Author.Needs.{needs}
 use Rattle.list.proofs.list.Statement.{statement}
 use Rattle.list.proofs.list.Tie as tie
@@ -30,6 +31,10 @@ listed-within text room = go (ltb (length text) room) refl
     go : (b : Bool) → ltb (length text) room ≡ b → ListedWithin room (pick b (listed.Text (length text)) listed.NoRoom)
     go true e = ltb-true (length text) room e
     go false e = tt
+
+-- the program's space has room
+no-room : (input : List ℕ) (room : ℕ) → room ≡ 262144 → listed.NoRoom ≡ listedOf (inputText input) room → ⊥
+no-room input room e q = let told = q ∙ ap (listedOf (inputText input)) e ∙ listing-told input in never (cc)
 
 slice-aggregate-list-input : tie.Need-slice-aggregate-list-input
 slice-aggregate-list-input c = search needs
@@ -63,8 +68,10 @@ fail-requires c κs = search needs
 enum-told : tie.Need-enum-told
 enum-told c = search needs
 
-tell-no-room-requires : tie.Need-tell-no-room-requires
-tell-no-room-requires c κs = search needs
+never-requires : tie.Need-never-requires
+never-requires c κs =
+    let called = c .before .before .before in
+    no-room (now (called .before .before .before .args .input)) _ (length-replicate {A = ℕ} 262144 0) (so (c .enum-told .given .1) (called .list-input .ensures .0))
 
 returns : tie.Need-returns
 returns c = search needs
@@ -88,7 +95,7 @@ list-spec =
     slice-aggregate-fail
     fail-requires
     enum-told
-    tell-no-room-requires
+    never-requires
     returns
     returns-2
     returns-3)

@@ -16,13 +16,14 @@ use Rattle.records.specs.Records.{Content, header, break, object, play, Found, 
 use Rattle.records.specs.Order.{MH, BR, PL, rankOf, bodyOf}
 use Rattle.records.specs.File.{File, Result, accepted, countsOf, with-record, fresh, fileOf}
 use Rattle.records.specs.declared.record.Record.{Record}
+use Rattle.records.specs.declared.record.Read.{Read}
 use Rattle.records.specs.declared.record.Read.the-variants as read
 use Rattle.records.proofs.All.{all-out}
 use Rattle.records.proofs.Laws.{never}
 use Rattle.records.proofs.Local.{record-body}
 use Rattle.records.proofs.Reading.{Chain, start, longer, foundAt, found-sized, with-at, chain-on, on-fewer, on-stop, on-end, ended-is, length-snoc}
 use Rattle.records.proofs.Room.{placeOf, body-placed}
-use Rattle.records.proofs.Sizes.{Sized}
+use Rattle.records.proofs.Sizes.{SizeBy}
 use Rattle.simulator.proofs.Summing.{FewIn, object-few}
 use Rattle.entries.specs.Entry.{ownEntry}
 use Rattle.entries.specs.Words.{putEntry}
@@ -31,7 +32,7 @@ use Rattle.entries.proofs.Runs.{entry-own}
 use Rattle.tree.specs.Board.{startsOf}
 use Rattle.tree.specs.Build.{laid}
 use Rattle.tree.proofs.BuildRight.{laid-none, laid-snoc, laid-length}
-use Rattle.board.specs.Laying.{LaysRecord, recordLaid, LaysFound, foundLaid, foundSize, Lays, objectsLaid}
+use Rattle.board.specs.Laying.{LaysRecord, recordLaid, LaysRead, readLaid, sizeOf, Lays, objectsLaid}
 
 -- ---- the start table
 -- the starts of the first objects, the rest as it was
@@ -56,32 +57,18 @@ begun-snoc (x ∷ os) o (t ∷ ts) h = ap (λ (l : List Float). x .start ∷ l) 
 both : {b b′ : List ℕ} {ts ts′ : List Float} → b ≡ b′ → ts ≡ ts′ → _≡_ {A = List ℕ × List Float} (b, ts) (b′, ts′)
 both p q = λ i. (p i, q i)
 
--- ---- the record that was found
-module _ (cap place : ℕ) (b : List ℕ) (ts : List Float) where
-  pub item-room : (x : Found) {item : Record} {n : ℕ} → read.Good item n ≡ readOf x → LaysFound cap place x b ts → LaysRecord cap place item b ts
-  item-room (refused m) e h = never (cc)
-  item-room (good f) {item} {n} e h = let same : item ≡ contentView (f .0) = cc in rw same h
+-- ---- one record
+-- what was read is laid as its record is
+pub item-laid : (cap place : ℕ) (b : List ℕ) (ts : List Float) {x : Read} {item : Record} {n : ℕ} → x ≡ read.Good item n → {b′ : List ℕ} {ts′ : List Float}
+    → (b′, ts′) ≡ recordLaid cap place item b ts → (n, b′, ts′) ≡ readLaid cap place x b ts
+item-laid cap place b ts {n = n} e q = (λ i. (n, q i .0, q i .1)) ∙ ap (λ (x : Read). readLaid cap place x b ts) (sym e)
 
-  pub item-laid : (x : Found) {item : Record} {n : ℕ} → read.Good item n ≡ readOf x → {b′ : List ℕ} {ts′ : List Float}
-      → (b′, ts′) ≡ recordLaid cap place item b ts → (n, b′, ts′) ≡ foundLaid cap place x b ts
-  item-laid (refused m) e q = never (cc)
-  item-laid (good f) {item} {n} e q =
-      let same : item ≡ contentView (f .0) = cc in
-      let size : n ≡ f .1 = cc in
-      let after = q ∙ ap (λ (i : Record). recordLaid cap place i b ts) same in
-      λ i. (size i, after i .0, after i .1)
-
-  pub none-laid : (x : Found) {m : ℕ} → read.Refused m ≡ readOf x → (0, b, ts) ≡ foundLaid cap place x b ts
-  none-laid (refused m) e = refl
-  none-laid (good f) e = never (cc)
-
-pub item-size : (x : Found) {item : Record} {n : ℕ} → read.Good item n ≡ readOf x → n ≡ foundSize x
-item-size (refused m) e = never (cc)
-item-size (good f) e = cc
-
-pub none-size : (x : Found) {m : ℕ} → read.Refused m ≡ readOf x → 0 ≡ foundSize x
-none-size (refused m) e = refl
-none-size (good f) e = never (cc)
+-- the size of what is no object
+size-is : (x : Content) (n rank : ℕ) → SizeBy x n → placeOf x ≡ rank → (rank ≡ 3 → ⊥) → n ≡ sizeOf rank
+size-is (header t) n rank e p apart = e ∙ ap sizeOf p
+size-is (break t) n rank e p apart = e ∙ ap sizeOf p
+size-is (object o) n rank e p apart = absurd (apart (sym p))
+size-is (play t) n rank e p apart = e ∙ ap sizeOf p
 
 -- the mark of an object is no other record's
 object-body : (r : List ℕ) (m : ℕ) → rankOf m ≡ 3 → bodyOf r m ≡ objectOf r m
@@ -190,9 +177,9 @@ module _ {s : List ℕ} {cap : ℕ} {b₀ : List ℕ} {ts₀ : List Float} {at p
     without (object o) m apart = absurd (apart refl)
     without (play p) m apart = refl
 
-    module _ (apart : rankOf mark ≡ 3 → ⊥) {size : ℕ} (q : size ≡ foundSize (bodyOf r mark)) where
+    module _ (apart : rankOf mark ≡ 3 → ⊥) {size : ℕ} (q : size ≡ sizeOf (rankOf mark)) where
       other-size : size ≡ n
-      other-size = q ∙ ap foundSize body-is
+      other-size = q ∙ sym (size-is x n (rankOf mark) (found-sized s f (next .found) (next .is) .2) placed apart)
 
       pub other-ahead : Ahead s at size
       other-ahead = ahead-by other-size
@@ -229,7 +216,7 @@ module _ {s : List ℕ} {cap : ℕ} {b₀ : List ℕ} {ts₀ : List Float} {at p
           (w, omega (arith, low, h .places), omega (arith, same-words, h .words), omega (arith, low, same-numbers, h .numbers))
       room-of (play p) m w less = tt
 
-      pub laying-room : LaysFound cap place (objectOf r mark) b ts
+      pub laying-room : LaysRead cap place (readOf (objectOf r mark)) b ts
       laying-room = rw object-is (room-of x n few fewer-next)
 
       -- what it lays, and that it is one more
@@ -260,9 +247,9 @@ module _ {s : List ℕ} {cap : ℕ} {b₀ : List ℕ} {ts₀ : List Float} {at p
       pub object-low : place < cap
       object-low = let w = laid-of x n (placed ∙ third) fewer-next .one in omega (arith, w, fewer-next, h .places, k .place-is)
 
-      module _ {size : ℕ} {b′ : List ℕ} {ts′ : List Float} (q : (size, b′, ts′) ≡ foundLaid cap place (objectOf r mark) b ts) where
-        told : (size, b′, ts′) ≡ foundLaid cap place (good (next .found)) b ts
-        told = q ∙ ap (λ (y : Found). foundLaid cap place y b ts) object-is
+      module _ {size : ℕ} {b′ : List ℕ} {ts′ : List Float} (q : (size, b′, ts′) ≡ readLaid cap place (readOf (objectOf r mark)) b ts) where
+        told : (size, b′, ts′) ≡ readLaid cap place (readOf (good (next .found))) b ts
+        told = q ∙ ap (λ (y : Found). readLaid cap place (readOf y) b ts) object-is
 
         object-size : size ≡ n
         object-size = λ i. told i .0

@@ -2,14 +2,16 @@
 use Prim.Native.Nat.{ℕ, _+_, _*_, _≤_, _<_}
 use mathlib.Core.Path.{_≡_}
 use mathlib.Core.List.{List, _++_}
+use lib.Dec.{eqb}
 use lib.Ieee.{Float}
 use lib.ListN.{length, drop, set}
-use Rattle.records.specs.Refusals.{good, refused}
+use Rattle.records.specs.Refusals.{pick}
 use Rattle.records.specs.Objects.{Object}
-use Rattle.records.specs.Records.{Found, contentView}
 use Rattle.records.specs.File.{File, Result, accepted, refusedAt}
 use Rattle.records.specs.declared.record.Record.{Record}
 use Rattle.records.specs.declared.record.Record.the-variants as record·case
+use Rattle.records.specs.declared.record.Read.{Read}
+use Rattle.records.specs.declared.record.Read.the-variants as read
 use Rattle.simulator.specs.Limits.{nestedCount}
 use Rattle.entries.specs.Entry.{ownEntry}
 use Rattle.entries.specs.Words.{putEntry}
@@ -30,18 +32,18 @@ recordLaid cap place (record·case.Break x) b ts = (b, ts)
 recordLaid cap place (record·case.Object o) b ts = (putEntry b (cap + place) (ownEntry (o .kind)), set ts place (o .«start_time»))
 recordLaid cap place (record·case.Play p) b ts = (b, ts)
 
--- what the record that was found lays, if it was, and its size
-abbrev pub LaysFound : ℕ → ℕ → Found → List ℕ → List Float → Type 0
-LaysFound cap place (refused n) b ts = Unit
-LaysFound cap place (good f) b ts = LaysRecord cap place (contentView (f .0)) b ts
+-- what an object lays as it was read, and its size
+abbrev pub LaysRead : ℕ → ℕ → Read → List ℕ → List Float → Type 0
+LaysRead cap place (read.Refused n) b ts = Unit
+LaysRead cap place (read.Good item n) b ts = LaysRecord cap place item b ts
 
-abbrev pub foundLaid : ℕ → ℕ → Found → List ℕ → List Float → ℕ × List ℕ × List Float
-foundLaid cap place (refused n) b ts = (0, b, ts)
-foundLaid cap place (good f) b ts = let after = recordLaid cap place (contentView (f .0)) b ts in (f .1, after .0, after .1)
+abbrev pub readLaid : ℕ → ℕ → Read → List ℕ → List Float → ℕ × List ℕ × List Float
+readLaid cap place (read.Refused n) b ts = (0, b, ts)
+readLaid cap place (read.Good item n) b ts = let after = recordLaid cap place item b ts in (n, after .0, after .1)
 
-abbrev pub foundSize : Found → ℕ
-foundSize (refused n) = 0
-foundSize (good f) = f .1
+-- the size of a record that is no object, by its place in the order: a header, a break or a play
+abbrev pub sizeOf : ℕ → ℕ
+sizeOf rank = pick (eqb rank 1) 14 (pick (eqb rank 2) 18 44)
 
 -- an accepted file, and room for its objects
 pub record Lays (cap : ℕ) (r : Result) (b : List ℕ) (ts : List Float) : Type 0 where

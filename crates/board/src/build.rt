@@ -6,20 +6,18 @@ use entries::entry::Entry;
 use entries::words::store;
 use numbers::words::word_at;
 use records::file::rank_of;
-use records::file::read_body;
-use records::hit_object::read_object;
+use records::hit_object;
 use records::record::Read;
 use records::record::Record;
 use scoring::plays::Plays;
 use scoring::plays::check_plays;
 use tree::build::fill;
 ghost use mathlib.Core.Path.{_≡_};
-ghost use Rattle.records.specs.Records.{objectOf};
-ghost use Rattle.records.specs.Order.{bodyOf};
+ghost use Rattle.records.specs.Records.{readOf, objectOf};
 ghost use Rattle.records.specs.File.{fileOf};
 ghost use Rattle.scoring.specs.Scores.{scoresOf};
 ghost use Rattle.board.specs.Build.{built};
-ghost use Rattle.board.specs.Laying.{LaysRecord, recordLaid, LaysFound, foundLaid, foundSize, Lays, objectsLaid};
+ghost use Rattle.board.specs.Laying.{LaysRecord, recordLaid, LaysRead, readLaid, sizeOf, Lays, objectsLaid};
 
 // An object's own entry and its start at its place; other records have neither.
 fn lay_record(board: &mut [u64], starts: &mut [f64], cap: usize, place: usize, item: Record)
@@ -37,19 +35,12 @@ fn lay_record(board: &mut [u64], starts: &mut [f64], cap: usize, place: usize, i
     }
 }
 
-// Lays the object that r starts with, and gives its size. An accepted file's records need no second check of their order and counts.
-fn lay_object(
-    r: &[u8],
-    mark: u64,
-    board: &mut [u64],
-    starts: &mut [f64],
-    cap: usize,
-    place: usize,
-) -> usize
-    requires { ⌜ LaysFound cap place (objectOf (now r) mark) (now board) (now starts) ⌝ }
-    ensures { λ x. ⌜ (x, now (board .exit), now (starts .exit)) ≡ foundLaid cap place (objectOf (now (r .entry)) mark) (now (board .entry)) (now (starts .entry)) ⌝ }
+// Lays an object as it was read, and gives its size.
+fn lay_read(found: Read, board: &mut [u64], starts: &mut [f64], cap: usize, place: usize) -> usize
+    requires { ⌜ LaysRead cap place found (now board) (now starts) ⌝ }
+    ensures { λ x. ⌜ (x, now (board .exit), now (starts .exit)) ≡ readLaid cap place found (now (board .entry)) (now (starts .entry)) ⌝ }
 {
-    match read_object(r, mark) {
+    match found {
         Read::Refused(_) => 0,
         Read::Good(item, size) => {
             lay_record(board, starts, cap, place, item);
@@ -58,14 +49,42 @@ fn lay_object(
     }
 }
 
-// The size of the record that r starts with.
-fn size_of(r: &[u8], mark: u64) -> usize
-    ensures { λ x. ⌜ x ≡ foundSize (bodyOf (now (r .entry)) mark) ⌝ }
+// Lays the object that r starts with, and gives its size. The file is accepted: order, counts and bonus are checked. Each kind has its reading and
+// its laying in one piece.
+fn lay_object(
+    r: &[u8],
+    mark: u64,
+    board: &mut [u64],
+    starts: &mut [f64],
+    cap: usize,
+    place: usize,
+) -> usize
+    requires { ⌜ LaysRead cap place (readOf (objectOf (now r) mark)) (now board) (now starts) ⌝ }
+    ensures { λ x. ⌜ (x, now (board .exit), now (starts .exit)) ≡ readLaid cap place (readOf (objectOf (now (r .entry)) mark)) (now (board .entry)) (now (starts .entry)) ⌝ }
 {
-    match read_body(r, mark) {
-        Read::Refused(_) => 0,
-        Read::Good(_, size) => size,
+    if mark == hit_object::CI {
+        return lay_read(hit_object::read_circle(r), board, starts, cap, place);
     }
+    if mark == hit_object::SL {
+        return lay_read(hit_object::read_slider(r), board, starts, cap, place);
+    }
+    if mark == hit_object::SP {
+        return lay_read(hit_object::read_spinner(r), board, starts, cap, place);
+    }
+    0
+}
+
+// The size of a record that is no object, by its place in the order.
+fn size_of(rank: u8) -> usize
+    ensures { λ r. ⌜ r ≡ sizeOf rank ⌝ }
+{
+    if rank == 1 {
+        return 14;
+    }
+    if rank == 2 {
+        return 18;
+    }
+    44
 }
 
 // The own entries and the starts of an accepted file's objects.
@@ -78,11 +97,12 @@ fn lay(file: &[u8], board: &mut [u64], starts: &mut [f64], cap: usize)
     while at < file.len() {
         let r = &file[at..];
         let mark = word_at(r, 0, 2);
-        if rank_of(mark) == 3 {
+        let rank = rank_of(mark);
+        if rank == 3 {
             at += lay_object(r, mark, board, starts, cap, place);
             place += 1;
         } else {
-            at += size_of(r, mark);
+            at += size_of(rank);
         }
     }
 }

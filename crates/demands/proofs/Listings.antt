@@ -13,18 +13,15 @@ use lib.Ieee.{Float, nan, inf, fin, up, down, lt}
 use lib.Ieee.Nearest.{closest}
 use lib.ListN.{length, take, drop, length-append, length-take, length-drop}
 use Rattle.numbers.specs.Rounding.{saturated, roundTiesEvenI32}
-use Rattle.numbers.specs.Words.{wordAt}
 use Rattle.records.specs.Refusals.{Checked, good, refused, pick}
 use Rattle.records.specs.Objects.{Object}
-use Rattle.records.specs.Records.{Content, header, break, object, play, Found, headerOf, breakOf, playOf, objectOf, circleOf, sliderOf, spinnerOf, CI, SL, SP}
-use Rattle.records.specs.Order.{MH, BR, PL, bodyOf, recordOf}
-use Rattle.records.specs.File.{Map, File, Result, accepted, refusedAt, countsOf, with-record, follow, ended, fileFrom, fresh, fileOf}
+use Rattle.records.specs.Records.{Content, header, break, object, play, Found}
+use Rattle.records.specs.File.{Map, File, Result, accepted, refusedAt, with-record, follow, ended, fileFrom, fresh, fileOf}
 use Rattle.records.specs.declared.beatmap.BreakPeriod.{BreakPeriod}
-use Rattle.records.specs.declared.file.Counts.{Counts}
 use Rattle.records.specs.declared.play.Play.{Play}
-use Rattle.records.proofs.All.{All, none, that, all-bind, all-any, all-when, all-pick, all-out}
 use Rattle.records.proofs.Laws.{never}
-use Rattle.records.proofs.Reading.{foundAt, found-sized, with-at, length-snoc}
+use Rattle.records.proofs.Reading.{foundAt, found-sized, length-snoc}
+use Rattle.records.proofs.Sizes.{SizeBy}
 use Rattle.encoding.specs.Limits.{MapWithin, ObjectWithin, Each, none as no-more, one}
 use Rattle.ruleset.specs.Drain.{lengthOf, breaksLength, startOf, lastPlace, drainAt}
 use Rattle.ruleset.specs.Stars.{multiplierAt}
@@ -122,32 +119,6 @@ module _ (m : Map) (p : ℕ) (w : MapWithin m) where
       }
 
 -- ---- the plays of a file: 44 bytes each
-abbrev PlayOf44 : Content × ℕ → Type 0
-PlayOf44 (header s, n) = Unit
-PlayOf44 (break b, n) = Unit
-PlayOf44 (object o, n) = Unit
-PlayOf44 (play p, n) = n ≡ 44
-
-object-44 : (r : List ℕ) (m : ℕ) → All PlayOf44 (objectOf r m)
-unfolding objectOf circleOf sliderOf spinnerOf
-object-44 r m =
-    all-pick (eqb m CI) (λ _. all-when 2 _ _ (λ _. all-any _ _ (λ a. that tt))) (λ _.
-    all-pick (eqb m SL) (λ _. all-when 2 _ _ (λ _. all-any _ _ (λ a. all-when 6 _ _ (λ _. all-when 2 _ _ (λ _. all-any _ _ (λ is. that tt)))))) (λ _.
-    all-pick (eqb m SP) (λ _. all-when 2 _ _ (λ _. all-any _ _ (λ a. all-any _ _ (λ b. that tt)))) (λ _. none)))
-
-body-44 : (r : List ℕ) (m : ℕ) → All PlayOf44 (bodyOf r m)
-unfolding bodyOf headerOf breakOf playOf
-body-44 r m =
-    all-pick (eqb m MH) (λ _. all-when 2 _ _ (λ _. all-any _ _ (λ hp. all-any _ _ (λ od. all-any _ _ (λ cs. that tt))))) (λ _.
-    all-pick (eqb m BR) (λ _. all-when 2 _ _ (λ _. all-any _ _ (λ a. all-any _ _ (λ b. that tt)))) (λ _.
-    all-pick (eqb m PL) (λ _. all-when 2 _ _ (λ _. all-any _ _ (λ o. all-any _ _ (λ s. all-when 8 _ _ (λ _. all-any _ _ (λ x. that refl)))))) (λ _. object-44 r m)))
-
-record-44 : (r : List ℕ) (c : Counts) → All PlayOf44 (recordOf r c)
-unfolding recordOf
-record-44 r c =
-    all-when 2 _ _ (λ _. all-when 3 _ _ (λ _. all-when 6 _ _ (λ _.
-    all-bind (bodyOf r (wordAt r 0 2)) _ (body-44 r (wordAt r 0 2)) (λ f h. all-when 7 _ _ (λ _. that h)))))
-
 -- what was read so far lies within the file, and so do its plays
 record Held (s : List ℕ) (f : File) : Type 0 where
   inside : f .at ≤ length s
@@ -158,7 +129,7 @@ each-snoc : {A : Type 0} {P : A → Type 0} (l : List A) (x : A) → Each P l �
 each-snoc [] x no-more h = one h no-more
 each-snoc (y ∷ l) x (one k w) h = one k (each-snoc l x w h)
 
-held-with : (s : List ℕ) (f : File) (x : Content) (n : ℕ) → f .at + n ≤ length s → PlayOf44 (x, n) → Held s f → Held s (with-record f (x, n))
+held-with : (s : List ℕ) (f : File) (x : Content) (n : ℕ) → f .at + n ≤ length s → SizeBy x n → Held s f → Held s (with-record f (x, n))
 unfolding with-record
 held-with s f (header t) n h e k = record { inside = h; plays = omega (arith, k .plays); offsets = k .offsets }
 held-with s f (break b) n h e k = record { inside = h; plays = omega (arith, k .plays); offsets = k .offsets }
@@ -187,7 +158,7 @@ held-from (suc fuel) s f k = go (λ r q. held-from fuel s (with-record f r) (nex
     next r q =
         let sized = found-sized s f r q in
         let room = length-drop (f .at) s in
-        held-with s f (r .0) (r .1) (omega (arith, sized .1, room, k .inside)) (all-out (rw q at (record-44 (drop (f .at) s) (countsOf f)))) k
+        held-with s f (r .0) (r .1) (omega (arith, sized .1, room, k .inside)) (sized .2) k
 
     go : ((r : Content × ℕ) → foundAt s f ≡ good r → HeldFile s (fileFrom fuel s (with-record f r)))
         → (b : Bool) (x : Found) → foundAt s f ≡ x → HeldFile s (pick b (follow f x (λ r. fileFrom fuel s (with-record f r))) (ended f))

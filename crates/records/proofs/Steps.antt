@@ -28,7 +28,7 @@ module _ (x : Found) (r : Record) (n : ℕ) (e : Good r n ≡ readOf x) where
     where
       go : (x : Found) → All (Sized l) x → Good r n ≡ readOf x → (2 ≤ n) × (n ≤ length l)
       go (refused m) none e = never (cc)
-      go (good f) (that p) e = let k : n ≡ f .1 = cc in rw k p
+      go (good f) (that p) e = let k : n ≡ f .1 = cc in rw k (p .0, p .1)
 
   pub read-fits : (c : Counts) → All (λ f. Fits c (contentView (f .0))) x → Fits c r
   read-fits c a = go x a e

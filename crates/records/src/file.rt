@@ -121,7 +121,7 @@ fn is_full(c: Counts, rank: u8) -> bool
     false
 }
 
-pub fn read_body(r: &[u8], mark: u64) -> Read
+fn read_body(r: &[u8], mark: u64) -> Read
     ensures { λ x. ⌜ x ≡ readOf (bodyOf (now (r .entry)) mark) ⌝ }
 {
     if mark == MH {

@@ -1,11 +1,12 @@
 -- `lay` is right since each record of an accepted file is found by its mark, and its object is laid where the definition lays it.
-use mathlib.Core.Path.{_≡_, sym, _∙_}
+use mathlib.Core.Path.{_≡_, sym, ap, _∙_}
 use Prim.Native.Nat.{_+_, _-_, _<_}
 use native.Mathlib.Omega.{arith}
 use borrow.Author.Needs.{needs}
 use lib.ListN.{length}
 use Rattle.records.specs.Order.{rankOf}
 use Rattle.records.proofs.Steps.{rest-is}
+use Rattle.board.specs.Laying.{sizeOf}
 use Rattle.board.proofs.LayingRight.{SoFar, Ahead, laying-start, same-words, same-numbers, laying-room, object-ahead, object-low, laying-object, other-ahead, laying-other, laying-end}
 use Rattle.board.proofs.build.lay.Statement.{statement}
 use Rattle.board.proofs.build.lay.Tie as tie
@@ -106,9 +107,10 @@ other-next c =
     let kept = more .before in
     let start = kept .before .before .before .before in
     let rest = rest-is (start .args .file .now) (kept .loop .at) in
-    let apart : rankOf (read .word-at .result) ≡ 3 → ⊥ = λ e. other .if1 .left (ranked .rank-of .ensures ∙ e) in (
-      other-ahead (start .pre) (kept .loop .inv) (more .loop-test .taken) rest (read .word-at .ensures .0) apart (c .size-of .ensures),
-      laying-other (start .pre) (kept .loop .inv) (more .loop-test .taken) rest (read .word-at .ensures .0) apart (c .size-of .ensures),
+    let apart : rankOf (read .word-at .result) ≡ 3 → ⊥ = λ e. other .if1 .left (ranked .rank-of .ensures ∙ e) in
+    let size = c .size-of .ensures ∙ ap sizeOf (ranked .rank-of .ensures) in (
+      other-ahead (start .pre) (kept .loop .inv) (more .loop-test .taken) rest (read .word-at .ensures .0) apart size,
+      laying-other (start .pre) (kept .loop .inv) (more .loop-test .taken) rest (read .word-at .ensures .0) apart size,
     )
 
 add-at-2 : tie.Need-add-at-2 Inv-loop μ-loop

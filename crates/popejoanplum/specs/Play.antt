@@ -33,11 +33,15 @@ playWith p o s flags = record {
 }
 
 -- "8: a play field is out of range". A field that an enum cannot hold leaves the play with flags 0xffff, which every call refuses with 8, in the
--- place where it checks 8: after 6, 11 and 4 of a read, after the whole file of `pjp_score_play` (proofs/OutOfRange). Any other play is taken as it is
+-- place where it checks 8: after 6, 11 and 4 of a read, after the whole file of `pjp_score_play` (proofs/OutOfRange)
+abbrev pub badPlay : HostPlay → Play
+badPlay p = playWith p Stable Absent 0xffff
+
+-- any other play is taken as it is
 abbrev pub playFrom : HostPlay → Origin → Score → Play
 playFrom p (origin.Is o) (score.Is s) = playWith p o s (p .flags)
-playFrom p (origin.Is o) score.Bad = playWith p Stable Absent 0xffff
-playFrom p origin.Bad s = playWith p Stable Absent 0xffff
+playFrom p (origin.Is o) score.Bad = badPlay p
+playFrom p origin.Bad s = badPlay p
 
 -- a host's play, by its origin, mark and score as a play's record would have them
 abbrev pub playIn : HostPlay → Play

@@ -9,7 +9,7 @@ use records::play::Score;
 use records::play::origin_of;
 use records::play::score_of;
 ghost use mathlib.Core.Path.{_≡_};
-ghost use Rattle.popejoanplum.specs.Play.{playWith, playIn};
+ghost use Rattle.popejoanplum.specs.Play.{playWith, badPlay, playIn};
 
 // The fields of a play's record, those of 8 bytes first.
 #[repr(C)]
@@ -57,25 +57,26 @@ fn play_with(p: HostPlay, origin: OsuScoreOrigin, score: LegacyTotalScore, flags
     }
 }
 
-// A play with an origin or a score that no enum holds gets flags that are refused in its place.
+// In place of a play with an origin or a score that no enum holds: one whose flags are refused.
+fn bad_play(p: HostPlay) -> Play
+    ensures { λ r. ⌜ r ≡ badPlay p ⌝ }
+{
+    play_with(
+        p,
+        OsuScoreOrigin::Stable,
+        LegacyTotalScore::Absent,
+        BAD_FLAGS,
+    )
+}
+
 pub fn play_in(p: HostPlay) -> Play
     ensures { λ r. ⌜ r ≡ playIn p ⌝ }
 {
     let Origin::Is(origin) = origin_of(p.origin as u64) else {
-        return play_with(
-            p,
-            OsuScoreOrigin::Stable,
-            LegacyTotalScore::Absent,
-            BAD_FLAGS,
-        );
+        return bad_play(p);
     };
     let Score::Is(score) = score_of(p.has_score as u64, p.score) else {
-        return play_with(
-            p,
-            OsuScoreOrigin::Stable,
-            LegacyTotalScore::Absent,
-            BAD_FLAGS,
-        );
+        return bad_play(p);
     };
     play_with(p, origin, score, p.flags)
 }

@@ -16,14 +16,14 @@ enum-known-origin c = search needs
 enum-told : tie.Need-enum-told
 enum-told c = search needs
 
-play-with-requires : tie.Need-play-with-requires
-play-with-requires c κs = search needs
+bad-play-requires : tie.Need-bad-play-requires
+bad-play-requires c κs = search needs
 
 returns : tie.Need-returns
 returns c =
     let told = c .before in
     let of-origin = told .before .before in
-    simp (so (of-origin .origin-of .ensures) (told .enum-told .given .1), c .play-with .ensures)
+    simp (so (of-origin .origin-of .ensures) (told .enum-told .given .1), c .bad-play .ensures)
 
 cast-score-of : tie.Need-cast-score-of
 cast-score-of c = search needs
@@ -37,8 +37,8 @@ enum-known-score c = search needs
 enum-told-2 : tie.Need-enum-told-2
 enum-told-2 c = search needs
 
-play-with-requires-2 : tie.Need-play-with-requires-2
-play-with-requires-2 c κs = search needs
+bad-play-requires-2 : tie.Need-bad-play-requires-2
+bad-play-requires-2 c κs = search needs
 
 returns-2 : tie.Need-returns-2
 returns-2 c =
@@ -49,11 +49,11 @@ returns-2 c =
     simp (
       so (of-origin .origin-of .ensures) (origin .origin .given .1),
       so (of-score .score-of .ensures) (told .enum-told2 .given .1),
-      c .play-with2 .ensures,
+      c .bad-play2 .ensures,
     )
 
-play-with-requires-3 : tie.Need-play-with-requires-3
-play-with-requires-3 c κs = search needs
+play-with-requires : tie.Need-play-with-requires
+play-with-requires c κs = search needs
 
 returns-3 : tie.Need-returns-3
 returns-3 c =
@@ -64,7 +64,7 @@ returns-3 c =
     simp (
       so (of-origin .origin-of .ensures) (origin .origin .given .1),
       so (of-score .score-of .ensures) (score .score .given .1),
-      c .play-with3 .ensures,
+      c .play-with .ensures,
     )
 
 pub play-in-spec : {M : Type 1} → statement M
@@ -75,13 +75,13 @@ play-in-spec =
     origin-of-requires
     enum-known-origin
     enum-told
-    play-with-requires
+    bad-play-requires
     returns
     cast-score-of
     score-of-requires
     enum-known-score
     enum-told-2
-    play-with-requires-2
+    bad-play-requires-2
     returns-2
-    play-with-requires-3
+    play-with-requires
     returns-3)

@@ -3,30 +3,22 @@
 use mathlib.Core.Path.{_≡_, refl, sym, ap, _∙_, subst}
 use mathlib.Core.Bool.{Bool, true, false}
 use mathlib.Core.List.{List, [], _∷_, _++_}
-use Prim.Native.Nat.{ℕ, zero, suc, _+_, _-_, _*_, _^_, _≤_, _<_, min}
+use Prim.Native.Nat.{ℕ, zero, suc, _+_, _*_, _^_, _≤_, _<_}
 use native.Mathlib.Omega.{arith}
-use borrow.Author.Tests.{ltb-true, ltb-false, lt-ltb}
+use borrow.Author.Tests.{ltb-false, lt-ltb}
 use lib.Dec.{eqb, ltb}
-use lib.IntN.{pos, negsuc, negℤ, _+ℤ_, _-ℤ_}
-use lib.Signed.{mag}
-use lib.Ieee.{Float, nan, inf, fin, up, down, lt}
-use lib.Ieee.Nearest.{closest}
-use lib.ListN.{length, take, drop, length-append, length-take, length-drop}
-use Rattle.numbers.specs.Rounding.{saturated, roundTiesEvenI32}
+use lib.ListN.{length, take, length-append, length-drop}
 use Rattle.records.specs.Refusals.{Checked, good, refused, pick}
 use Rattle.records.specs.Objects.{Object}
 use Rattle.records.specs.Records.{Content, header, break, object, play, Found}
 use Rattle.records.specs.File.{Map, File, Result, accepted, refusedAt, with-record, follow, ended, fileFrom, fresh, fileOf}
-use Rattle.records.specs.declared.beatmap.BreakPeriod.{BreakPeriod}
 use Rattle.records.specs.declared.play.Play.{Play}
 use Rattle.records.proofs.Laws.{never}
 use Rattle.records.proofs.Reading.{foundAt, found-sized, length-snoc}
 use Rattle.records.proofs.Sizes.{SizeBy}
 use Rattle.encoding.specs.Limits.{MapWithin, ObjectWithin, Each, none as no-more, one}
-use Rattle.ruleset.specs.Drain.{lengthOf, breaksLength, startOf, lastPlace, drainAt}
 use Rattle.ruleset.specs.Stars.{multiplierAt}
-use Rattle.ruleset.proofs.Signs.{mag-add, mag-sub, mag-quot}
-use Rattle.ruleset.proofs.Stars.{seven, settings-in}
+use Rattle.ruleset.proofs.Drains.{multiplier-most}
 use Rattle.simulator.specs.Walk.{State, fresh as no-hit, after}
 use Rattle.simulator.specs.Attributes.{scoreAttributesAt, scoreAttributesOf, legacyAttributesOf}
 use Rattle.simulator.specs.View.{times}
@@ -42,45 +34,6 @@ use Rattle.listing.specs.Listing.{playLines, textOf, fileText, inputText, liste
 use Rattle.listing.specs.declared.Listed.the-variants as listed
 use Rattle.demands.proofs.Rules.{refusal-rule}
 
--- ---- the multiplier of an accepted map
-saturated-small : (s : Bool) (n : ℕ) → mag (saturated s n) ≤ 2 ^ 31
-saturated-small false n = omega arith
-saturated-small true n = go (min n (2 ^ 31)) (omega arith)
-  where
-    go : (k : ℕ) → k ≤ 2 ^ 31 → mag (negℤ (pos k)) ≤ 2 ^ 31
-    go zero h = omega arith
-    go (suc k) h = omega (arith, h)
-
-rounded-small : (x : Float) → mag (roundTiesEvenI32 x) ≤ 2 ^ 31
-unfolding roundTiesEvenI32
-rounded-small nan = omega arith
-rounded-small (inf s) = saturated-small s (2 ^ 31)
-rounded-small (fin s m e) = saturated-small s (closest (m * up e) (down e))
-
-length-small : (a b : Float) → mag (lengthOf a b) ≤ 2 ^ 33
-length-small a b = omega (arith, mag-sub (roundTiesEvenI32 b) (roundTiesEvenI32 a), rounded-small a, rounded-small b)
-
-breaks-small : (last : Float) (bs : List BreakPeriod) → mag (breaksLength last bs) ≤ 2 ^ 34 * length bs
-unfolding breaksLength
-breaks-small last [] = omega arith
-breaks-small last (b ∷ bs) = go (lt (b .«end_time») last) (breaks-small last bs)
-  where
-    go : (x : Bool) → mag (breaksLength last bs) ≤ 2 ^ 34 * length bs
-        → mag (pick x (lengthOf (b .«start_time») (b .«end_time») +ℤ breaksLength last bs) (pos 0)) ≤ 2 ^ 34 * suc (length bs)
-    go false h = omega arith
-    go true h =
-        let sum = mag-add (lengthOf (b .«start_time») (b .«end_time»)) (breaksLength last bs) in
-        omega (arith, sum, h, length-small (b .«start_time») (b .«end_time»))
-
-drain-small : (bs : List BreakPeriod) (os : List Object) (p : ℕ) → length bs ≤ 128 → mag (drainAt bs os p) < 2 ^ 53
-unfolding drainAt
-drain-small bs [] p h = omega arith
-drain-small bs (o ∷ os) p h =
-    let last = startOf (o ∷ os) (lastPlace (length (o ∷ os)) p) in
-    let all = lengthOf (o .start) last in
-    let breaks = breaksLength last bs in
-    omega (arith, mag-quot (all -ℤ breaks), mag-sub all breaks, length-small (o .start) last, breaks-small last bs, h)
-
 -- ---- the numbers of a map's line
 each-few : (os : List Object) → Each ObjectWithin os → Each Few os
 each-few [] w = no-more
@@ -93,13 +46,6 @@ module _ (m : Map) (p : ℕ) (w : MapWithin m) where
   abbrev os : List Object
   os = take p (m .objects)
 
-  multiplier-most : k ≤ 7
-  unfolding multiplierAt
-  multiplier-most =
-      let few = length-take p (m .objects) in
-      seven (m .settings) (length os) (drainAt (m .breaks) (m .objects) p) (settings-in (m .settings) (w .settings))
-      (omega (arith, few, w .few-objects)) (drain-small (m .breaks) (m .objects) p (w .few-breaks))
-
   walked : after k no-hit os ≡ times k (after 1 no-hit os)
   walked = ap (λ (st : State). after k st os) (fresh-times k) ∙ after-times k no-hit os
 
@@ -111,9 +57,9 @@ module _ (m : Map) (p : ℕ) (w : MapWithin m) where
       let counts = passed-counted p 8192 (m .objects) (w .few-objects) (omega arith) few in
       rw walked record {
         count = omega (arith, counts .objects);
-        multiplier = omega (arith, multiplier-most);
+        multiplier = omega (arith, multiplier-most m p w);
         accuracy = omega (arith, sums .accuracy);
-        combo-points = product-fits (after 1 no-hit os .«combo_score») k (omega (arith, sums .points)) multiplier-most;
+        combo-points = product-fits (after 1 no-hit os .«combo_score») k (omega (arith, sums .points)) (multiplier-most m p w);
         bonus = omega (arith, sums .legacy);
         max-combo = omega (arith, sums .combo);
       }

@@ -4,3 +4,4 @@ mod Ratios
 pub mod Stars
 pub mod Breaks
 pub mod FileBreaks
+pub mod Drains

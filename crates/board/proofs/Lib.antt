@@ -6,5 +6,3 @@ pub mod Binds
 pub mod Edits
 pub mod Searches
 pub mod Readings
-pub mod LayingRight
-pub mod BuiltRight

@@ -17,7 +17,7 @@ use Rattle.simulator.specs.Attributes.{scoreAttributesOf}
 use Rattle.simulator.specs.View.{times}
 use Rattle.simulator.specs.Walk.{State}
 use Rattle.simulator.specs.declared.legacy_score.NestedScorePerObject.{NestedScorePerObject}
-use Rattle.scoring.specs.PlayRules.{modsBad, playScore}
+use Rattle.play_score.specs.PlayRules.{modsBad, playScore}
 use Rattle.board.specs.Place.{roomFor}
 use Rattle.board.specs.Search.{foundOf}
 use Rattle.board.specs.Read.{settingBad, settingsBad, timesBad, argumentsBad, attributesFrom, scoreFrom, readOf}

@@ -15,8 +15,8 @@ use Rattle.ruleset.specs.Stars.{multiplierOf}
 use Rattle.simulator.specs.Attributes.{scoreAttributesOf}
 use Rattle.simulator.specs.View.{times}
 use Rattle.simulator.specs.declared.attributes.ScoreAttributes.{ScoreAttributes}
-use Rattle.scoring.specs.PlayRules.{modsBad, playScore}
-use Rattle.scoring.specs.declared.play_score.PlayScore.{PlayScore}
+use Rattle.play_score.specs.PlayRules.{modsBad, playScore}
+use Rattle.play_score.specs.declared.PlayScore.{PlayScore}
 use Rattle.entries.specs.Scores.{stateIn, countsIn}
 use Rattle.board.specs.Place.{roomFor}
 use Rattle.board.specs.Search.{timeBad, foundOf}

@@ -16,7 +16,7 @@ use Rattle.numbers.specs.Words.{wordAt}
 use Rattle.records.specs.Refusals.{Checked, good, refused, _>>=_, _>>_, refuse_when_}
 use Rattle.records.specs.Objects.{Object, Kind, circle, slider, spinner}
 use Rattle.records.specs.Records.{Content, header, break, object, play, objectOf}
-use Rattle.records.specs.File.{Map}
+use Rattle.map_file.specs.File.{Map}
 use Rattle.records.specs.declared.beatmap.Settings.{Settings}
 use Rattle.records.specs.declared.play.Play.{Play}
 use Rattle.records.proofs.Laws.{never}
@@ -26,10 +26,9 @@ use Rattle.encoding.proofs.FieldBytes.{fields-length}
 use Rattle.encoding.proofs.RoundTrip.{object-back}
 use Rattle.simulator.specs.Attributes.{scoreAttributesAt}
 use Rattle.simulator.specs.declared.attributes.ScoreAttributes.{ScoreAttributes}
-use Rattle.scoring.specs.PlayRules.{modsBad, playScore}
-use Rattle.scoring.specs.Scores.{givenAnswer, givenScore}
-use Rattle.scoring.specs.declared.play_score.PlayScore.{PlayScore}
-use Rattle.scoring.specs.declared.score.GivenPlay.the-variants as given
+use Rattle.play_score.specs.PlayRules.{modsBad, playScore, givenAnswer, givenScore}
+use Rattle.play_score.specs.declared.PlayScore.{PlayScore}
+use Rattle.play_score.specs.declared.GivenPlay.the-variants as given
 use Rattle.entries.specs.Entry.{entryOf}
 use Rattle.entries.specs.Words.{entryAt}
 use Rattle.tree.specs.Size.{levelsOf, capOf}
@@ -44,7 +43,7 @@ use Rattle.board.specs.declared.place.Written.the-variants as written
 use Rattle.board.proofs.Binds.{bound, passed}
 use Rattle.board.proofs.Rooms as rooms
 use Rattle.demands.specs.Calls.{isAccepted, changed, timesOf, Lent, lentFor, Call, edit, read, Answer, edits, reads, answer, lentAfter, putIfAccepted, mapAfter, recordAnswer, editAnswer}
-use Rattle.demands.proofs.Rules.{IsRule, Ruled, fine, rule, ruled-bind, ruled-when, ruled-object, ruled-score-of, two, three, eight}
+use Rattle.scoring.proofs.Rules.{IsRule, Ruled, fine, rule, ruled-bind, ruled-when, ruled-object, ruled-score-of, two, three, eight}
 use Rattle.demands.proofs.Maps.{within-accepted}
 use Rattle.demands.proofs.EditRight.{edit-right}
 use Rattle.demands.proofs.ReadRight.{read-right}

@@ -12,21 +12,22 @@ use lib.Ieee.{Float}
 use lib.ListN.{length, drop, set}
 use Rattle.records.specs.Refusals.{Checked, good, refused, _>>_}
 use Rattle.records.specs.Objects.{Object, bonus}
-use Rattle.records.specs.File.{Map, File, Result, accepted, refusedAt, fileOf}
+use Rattle.map_file.specs.File.{Map, File, Result, accepted, refusedAt, fileOf}
 use Rattle.records.specs.declared.beatmap.Settings.{Settings}
 use Rattle.records.specs.declared.play.Play.{Play}
 use Rattle.records.proofs.Laws.{never}
 use Rattle.encoding.specs.Encoding.{mapFile, playBytes}
 use Rattle.encoding.specs.Limits.{ObjectWithin, MapWithin, PlaySized}
 use Rattle.simulator.specs.Attributes.{scoreAttributesAt}
-use Rattle.scoring.specs.Scores.{Outcome, refusal, values, at-offset, then, Scores, scoresOf, givenAnswer, givenScore}
-use Rattle.scoring.specs.declared.play_score.PlayScore.{PlayScore}
+use Rattle.play_score.specs.PlayRules.{givenAnswer, givenScore}
+use Rattle.scoring.specs.Scores.{Outcome, refusal, values, at-offset, then, Scores, scoresOf}
+use Rattle.play_score.specs.declared.PlayScore.{PlayScore}
 use Rattle.scoring.proofs.Answers.{no-number, values-within}
 use Rattle.scoring.proofs.Behind.{behind-map}
 use Rattle.tree.specs.Size.{capOf}
 use Rattle.tree.specs.Board.{boardOf, startsOf}
 use Rattle.board.specs.Place.{roomFor, writtenLeft}
-use Rattle.board.specs.Build.{buildOf, built}
+use Rattle.board_build.specs.Build.{buildOf, built}
 use Rattle.board.specs.Edit.{objectIn, editOf}
 use Rattle.board.specs.Read.{readOf}
 use Rattle.board.specs.declared.place.Written.{Written}

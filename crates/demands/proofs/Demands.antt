@@ -7,7 +7,7 @@ use Prim.Native.Nat.{ℕ}
 use native.Mathlib.Omega.{arith}
 use lib.ListN.{length}
 use Rattle.records.specs.Refusals.{Checked, good, refused, _>>_, refuse_when_}
-use Rattle.records.specs.File.{Map, File, Result, accepted, refusedAt, fileOf}
+use Rattle.map_file.specs.File.{Map, File, Result, accepted, refusedAt, fileOf}
 use Rattle.records.specs.declared.play.Play.{Play}
 use Rattle.encoding.specs.Limits.{MapWithin, Each, none}
 use Rattle.encoding.specs.Encoding.{mapFile, each}
@@ -16,15 +16,15 @@ use Rattle.encoding.proofs.RoundTrip.{round-trip, bare}
 use Rattle.simulator.specs.Attributes.{scoreAttributesAt}
 use Rattle.simulator.specs.declared.attributes.ScoreAttributes.{ScoreAttributes}
 use Rattle.estimates.specs.Effective.{estimatesOf}
-use Rattle.scoring.specs.PlayRules.{exceeds, overCombo, playScore}
+use Rattle.play_score.specs.PlayRules.{exceeds, overCombo, playScore}
 use Rattle.scoring.specs.Scores.{Outcome, refusal, values, at-offset, then, Scores, playScoreOn, playScores, scoresOf}
-use Rattle.scoring.specs.declared.play_score.PlayScore.{PlayScore}
+use Rattle.play_score.specs.declared.PlayScore.{PlayScore}
 use Rattle.scoring.proofs.Answers.{no-number}
 use Rattle.listing.specs.Listing.{inputText, listedOf}
 use Rattle.listing.specs.declared.Listed.the-variants as listed
 use Rattle.demands.specs.Calls.{Claim}
-use Rattle.demands.proofs.Rules.{IsRule, refusal-rule}
-use Rattle.demands.proofs.Listings.{listing-told}
+use Rattle.scoring.proofs.Rules.{IsRule, refusal-rule}
+use Rattle.listing.proofs.Fits.{listing-told}
 use Rattle.demands.proofs.CallsRight.{calls-right}
 use Rattle.records.proofs.Laws.{never}
 

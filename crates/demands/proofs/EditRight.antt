@@ -13,7 +13,7 @@ use lib.Ieee.{Float}
 use lib.ListN.{length, set, length-append, length-map}
 use Rattle.records.specs.Refusals.{Checked, good, refused, _>>=_}
 use Rattle.records.specs.Objects.{Object, bonus}
-use Rattle.records.specs.File.{Map}
+use Rattle.map_file.specs.File.{Map}
 use Rattle.encoding.specs.Limits.{ObjectWithin, MapWithin}
 use Rattle.entries.specs.Entry.{entryOf}
 use Rattle.tree.specs.Size.{levelsOf, capOf}

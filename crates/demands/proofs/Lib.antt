@@ -1,5 +1,3 @@
-pub mod Rules
-pub mod Listings
 pub mod Maps
 pub mod EditRight
 pub mod SoundWords

@@ -9,8 +9,8 @@ use borrow.Author.Tests.{ltb-true, ltb-false}
 use lib.Dec.{ltb}
 use lib.ListN.{length, set, length-set}
 use Rattle.records.specs.Objects.{Object, bonus, kindBonus}
-use Rattle.records.specs.File.{Map, accepted, fileOf}
-use Rattle.records.proofs.Reading.{length-snoc, bonus-snoc}
+use Rattle.map_file.specs.File.{Map, accepted, fileOf}
+use Rattle.map_file.proofs.Reading.{length-snoc, bonus-snoc}
 use Rattle.encoding.specs.Encoding.{headerBytes, breakBytes, objectBytes, each, mapFile}
 use Rattle.encoding.specs.Limits.{Each, none, one, ObjectWithin, MapWithin}
 use Rattle.encoding.proofs.Accepted.{each-snoc}

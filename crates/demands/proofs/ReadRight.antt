@@ -12,7 +12,7 @@ use lib.Ieee.{Float, nan}
 use lib.ListN.{length, take, getD, length-append, length-map}
 use Rattle.records.specs.Refusals.{good, _>>_, refuse_when_}
 use Rattle.records.specs.Objects.{Object}
-use Rattle.records.specs.File.{Map}
+use Rattle.map_file.specs.File.{Map}
 use Rattle.records.specs.declared.beatmap.BreakPeriod.{BreakPeriod}
 use Rattle.records.specs.declared.beatmap.Settings.{Settings}
 use Rattle.records.specs.declared.play.Play.{Play}
@@ -25,9 +25,8 @@ use Rattle.simulator.specs.Attributes.{scoreAttributesOf, scoreAttributesAt}
 use Rattle.simulator.specs.View.{times}
 use Rattle.simulator.specs.declared.attributes.ScoreAttributes.{ScoreAttributes}
 use Rattle.simulator.proofs.Walks.{after-times, fresh-times}
-use Rattle.simulator.proofs.Passed.{attributes-passed}
-use Rattle.scoring.specs.PlayRules.{modsBad, playScore}
-use Rattle.scoring.specs.Scores.{givenScore}
+use Rattle.file_sums.proofs.Passed.{attributes-passed}
+use Rattle.play_score.specs.PlayRules.{modsBad, playScore, givenScore}
 use Rattle.entries.specs.Entry.{entryOf}
 use Rattle.entries.proofs.Scores.{state-is, counts-are}
 use Rattle.tree.specs.Board.{boardOf, startsOf}

@@ -9,21 +9,22 @@ use lib.Ieee.{Float}
 use lib.ListN.{length, drop, set}
 use Rattle.records.specs.Refusals.{Checked, good, refused}
 use Rattle.records.specs.Objects.{Object}
-use Rattle.records.specs.File.{Map, File, Result, accepted, refusedAt, fileOf}
+use Rattle.map_file.specs.File.{Map, File, Result, accepted, refusedAt, fileOf}
 use Rattle.records.specs.declared.beatmap.BreakPeriod.{BreakPeriod}
 use Rattle.records.specs.declared.beatmap.Settings.{Settings}
 use Rattle.records.specs.declared.play.Play.{Play}
 use Rattle.encoding.specs.Encoding.{mapFile, playBytes}
 use Rattle.encoding.specs.Limits.{PlaySized}
 use Rattle.simulator.specs.Attributes.{scoreAttributesAt}
-use Rattle.scoring.specs.Scores.{Outcome, refusal, values, Scores, scoresOf, givenAnswer, givenScore}
-use Rattle.scoring.specs.declared.play_score.PlayScore.{PlayScore}
-use Rattle.scoring.specs.declared.score.GivenPlay.{GivenPlay}
-use Rattle.scoring.specs.declared.score.GivenPlay.the-variants as given
+use Rattle.play_score.specs.PlayRules.{givenAnswer, givenScore}
+use Rattle.scoring.specs.Scores.{Outcome, refusal, values, Scores, scoresOf}
+use Rattle.play_score.specs.declared.PlayScore.{PlayScore}
+use Rattle.play_score.specs.declared.GivenPlay.{GivenPlay}
+use Rattle.play_score.specs.declared.GivenPlay.the-variants as given
 use Rattle.tree.specs.Size.{capOf}
 use Rattle.tree.specs.Board.{boardOf, startsOf}
 use Rattle.board.specs.Place.{writtenLeft}
-use Rattle.board.specs.Build.{built}
+use Rattle.board_build.specs.Build.{built}
 use Rattle.board.specs.Edit.{objectIn, editOf}
 use Rattle.board.specs.Read.{readOf}
 use Rattle.board.specs.declared.place.Written.{Written}

@@ -9,14 +9,14 @@ use Rattle.numbers.specs.Floats.{whole, _⊘_}
 use Rattle.numbers.specs.Rounding.{roundTiesEvenI32}
 use Rattle.spinner.specs.HalfSpins.{totalHalfSpins, requiredHalfSpins}
 use Rattle.records.specs.Objects.{tick, repeat, Kind, circle, slider, spinner, Object, repeats, ticks}
-use Rattle.records.specs.File.{Map}
+use Rattle.map_file.specs.File.{Map}
 use Rattle.ruleset.specs.Drain.{breaksLength, drainAt}
 use Rattle.ruleset.specs.Stars.{ratioOf, starsOf, multiplierAt}
 use Rattle.simulator.specs.Hits.{halfSpins, hitsOf}
 use Rattle.simulator.specs.Walk.{walk, after}
 use Rattle.simulator.specs.Nested.{spinnerScoreOf, counted, countedAll, nestedScoreOf}
 use Rattle.simulator.specs.Attributes.{bonusRatioOf, legacyAttributesOf, difficultyAttributesOf, scoreAttributesOf, scoreAttributesAt}
-use Rattle.estimates.specs.ScoreBased.{comboProductOf, comboPerObjectOf}
+use Rattle.miss_calc.specs.ScoreBased.{comboProductOf, comboPerObjectOf}
 use Rattle.entries.specs.Entry.{total, entryOf}
 use Rattle.tree.specs.Size.{levelsFrom, levelsOf}
 use Rattle.tree.specs.Board.{covered, entryIn, boardEntry}

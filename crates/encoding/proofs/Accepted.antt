@@ -14,18 +14,18 @@ use Rattle.records.specs.Refusals.{Checked, good, refused, _>>=_, pick}
 use Rattle.records.specs.Fields.{timed, set, doubleWithin, settingOf}
 use Rattle.records.specs.Objects.{Item, circle, slider, spinner, Object, bonus, kindBonus}
 use Rattle.records.specs.Records.{Content, header, break, object, play, Found, CI, SL, SP, headerOf, breakOf, circleOf, nestedOf, sliderOf, spinnerOf, playOf, objectOf, contentView}
-use Rattle.records.specs.Order.{MH, BR, PL, bodyOf, recordOf, contentBonus}
-use Rattle.records.specs.File.{Map, File, Result, accepted, refusedAt, countsOf, with-record, follow, ended, fileFrom, fresh, fileOf}
-use Rattle.records.specs.View.{Fits}
+use Rattle.map_file.specs.Order.{MH, BR, PL, bodyOf, recordOf, contentBonus}
+use Rattle.map_file.specs.File.{Map, File, Result, accepted, refusedAt, countsOf, with-record, follow, ended, fileFrom, fresh, fileOf}
+use Rattle.map_file.specs.View.{Fits}
 use Rattle.encoding.specs.Limits.{Within, IsTime, IsSetting, IsDuration, Each, none, one, SettingsWithin, BreakWithin, ObjectWithin, MapWithin}
-use Rattle.records.specs.declared.file.Counts.{Counts}
+use Rattle.map_file.specs.declared.file.Counts.{Counts}
 use Rattle.encoding.proofs.RecordsBack.{nested-length}
 use Rattle.encoding.proofs.Written.{timed-all, nested-are}
 use Rattle.records.proofs.All as checked
 use Rattle.records.proofs.All.{All, that, all-bind, all-any, all-when, all-pick, all-map}
-use Rattle.records.proofs.Bodies.{bonus-kept}
-use Rattle.records.proofs.Room.{record-fits, Begun, record-begun}
-use Rattle.records.proofs.Reading.{foundAt, length-snoc, bonus-snoc}
+use Rattle.map_file.proofs.Bodies.{bonus-kept}
+use Rattle.map_file.proofs.Room.{record-fits, Begun, record-begun}
+use Rattle.map_file.proofs.Reading.{foundAt, length-snoc, bonus-snoc}
 
 -- ---- the floats of a record
 within-all : (low high : Float) (b : ℕ) → All (Within binary64 low high) (timed (doubleWithin low high (ofBits binary64 b)))

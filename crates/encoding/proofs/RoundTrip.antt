@@ -14,17 +14,17 @@ use Rattle.numbers.specs.Words.{wordAt}
 use Rattle.records.specs.Refusals.{Checked, good, refused, _>>=_, _>>_, refuse_when_}
 use Rattle.records.specs.Objects.{circle, slider, spinner, Kind, Object, bonus, kindBonus}
 use Rattle.records.specs.Records.{Content, header, break, object, play, Found, CI, SL, SP, objectOf, playOf}
-use Rattle.records.specs.Order.{MH, BR, PL, rankOf, inOrder, isFull, contentBonus, bodyOf, recordOf}
-use Rattle.records.specs.File.{Map, File, accepted, refusedAt, countsOf, with-record, ended, fresh, fileOf}
+use Rattle.map_file.specs.Order.{MH, BR, PL, rankOf, inOrder, isFull, contentBonus, bodyOf, recordOf}
+use Rattle.map_file.specs.File.{Map, File, accepted, refusedAt, countsOf, with-record, ended, fresh, fileOf}
 use Rattle.encoding.specs.Limits.{Each, none, one, SettingsWithin, BreakWithin, KindWithin, ObjectWithin, MapWithin, PlayWithin}
 use Rattle.encoding.specs.Encoding.{fieldsOf, headerFields, breakFields, circleFields, sliderFields, spinnerFields, playFields, nestedBytes, kindBytes, headerBytes, breakBytes, objectBytes, playBytes, each, mapFile}
 use Rattle.records.specs.declared.beatmap.Settings.{Settings}
 use Rattle.records.specs.declared.beatmap.BreakPeriod.{BreakPeriod}
 use Rattle.records.specs.declared.play.Play.{Play}
-use Rattle.records.specs.declared.file.Counts.{Counts}
+use Rattle.map_file.specs.declared.file.Counts.{Counts}
 use Rattle.encoding.proofs.FieldBytes.{fields-length, mark-back}
 use Rattle.encoding.proofs.RecordsBack.{header-back, break-back, circle-back, slider-back, spinner-back, play-back, nested-length}
-use Rattle.records.proofs.Reading.{On, on-start, on-step, on-stop, on-end, with-at, length-snoc, bonus-snoc}
+use Rattle.map_file.proofs.Reading.{On, on-start, on-step, on-stop, on-end, with-at, length-snoc, bonus-snoc}
 
 -- ---- one record: found where the order, the counts and the bonus admit it
 record-good : (r : List ℕ) (c : Counts) (m : ℕ) (x : Content) (n : ℕ) → 2 ≤ length r → wordAt r 0 2 ≡ m

@@ -6,8 +6,8 @@ use lib.Ieee.{Float, binary32, binary64, toBits}
 use Rattle.numbers.specs.Words.{bytesOf}
 use Rattle.records.specs.Objects.{Item, tick, repeat, Kind, circle, slider, spinner, Object}
 use Rattle.records.specs.Records.{CI, SL, SP}
-use Rattle.records.specs.Order.{MH, BR, PL}
-use Rattle.records.specs.File.{Map}
+use Rattle.map_file.specs.Order.{MH, BR, PL}
+use Rattle.map_file.specs.File.{Map}
 use Rattle.records.specs.declared.beatmap.Settings.{Settings}
 use Rattle.records.specs.declared.beatmap.BreakPeriod.{BreakPeriod}
 use Rattle.records.specs.declared.play.OsuScoreOrigin.{OsuScoreOrigin}

@@ -9,7 +9,7 @@ use lib.Ieee.{Float, Format, binary32, binary64, fits, ofBits, neg, lt, le}
 use Rattle.records.specs.Fields.{timeLimit}
 use Rattle.records.specs.Objects.{Item, Kind, circle, slider, spinner, Object, bonus}
 use Rattle.records.specs.Play.{flagsBad}
-use Rattle.records.specs.File.{Map}
+use Rattle.map_file.specs.File.{Map}
 use Rattle.records.specs.declared.beatmap.Settings.{Settings}
 use Rattle.records.specs.declared.beatmap.BreakPeriod.{BreakPeriod}
 use Rattle.records.specs.declared.play.OsuHitResults.{OsuHitResults}

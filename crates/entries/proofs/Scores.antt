@@ -10,11 +10,10 @@ use Rattle.simulator.specs.Walk.{State, fresh, walk, after}
 use Rattle.simulator.specs.Combo.{gain, combosBefore, firstNoSlider}
 use Rattle.simulator.specs.Nested.{noObject, counted, countedAll}
 use Rattle.simulator.specs.declared.legacy_score.NestedScorePerObject.{NestedScorePerObject}
-use Rattle.simulator.proofs.States.{state-same}
+use Rattle.simulator.proofs.States.{nested-same, state-same}
 use Rattle.simulator.proofs.Objects.{walk-circle, walk-slider, walk-spinner}
 use Rattle.simulator.proofs.Points.{points-of-sums}
 use Rattle.simulator.proofs.Sums.{walk-gain, legacy-bonus}
-use Rattle.simulator.proofs.Tallies.{nested-same}
 use Rattle.entries.specs.Entry.{accuracyGain, standardisedGain, isCircle, isSlider, isSpinner, repeatsIn, ticksIn, spinnerScoreIn, total, entryOf}
 use Rattle.entries.specs.Scores.{stateIn, countsIn}
 use Rattle.entries.proofs.Accepted.{bonus-total}

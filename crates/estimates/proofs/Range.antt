@@ -9,10 +9,10 @@ use Rattle.numbers.specs.MinMax.{maxOf, minOf}
 use Rattle.numbers.proofs.Order.{max-above, min-below, min-above, whole-number, whole-le}
 use Rattle.records.specs.declared.play.OsuHitResults.{OsuHitResults}
 use Rattle.records.specs.declared.play.Play.{Play}
-use Rattle.estimates.specs.Counts.{totalHits}
+use Rattle.miss_calc.specs.Counts.{totalHits}
 use Rattle.estimates.specs.Effective.{heldOf, effectiveOf}
-use Rattle.estimates.specs.declared.legacy_score_miss_calc.MissCount.{MissCount}
-use Rattle.estimates.specs.declared.legacy_score_miss_calc.MissCount.the-variants as misses
+use Rattle.miss_calc.specs.declared.legacy_score_miss_calc.MissCount.{MissCount}
+use Rattle.miss_calc.specs.declared.legacy_score_miss_calc.MissCount.the-variants as misses
 
 pub record FromMissesToJudgements (x : Float) (h : OsuHitResults) : Type 0 where
   pub above : le (whole (h .misses)) x ≡ true

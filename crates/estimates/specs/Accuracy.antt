@@ -3,7 +3,7 @@ use Prim.Native.Nat.{ℕ, _+_, _*_, _^_, min}
 use mathlib.Core.Bool.{Bool, cond}
 use lib.Ieee.{Float, neg, lt, le}
 use Rattle.numbers.specs.Floats.{whole, part, _⊕_, _⊖_, _⊗_, _⊘_}
-use Rattle.estimates.specs.Counts.{totalHits}
+use Rattle.miss_calc.specs.Counts.{totalHits}
 use Rattle.records.specs.declared.play.OsuHitResults.{OsuHitResults}
 use Rattle.records.specs.declared.play.OsuScoreOrigin.{OsuScoreOrigin}
 use Rattle.records.specs.declared.play.OsuScoreOrigin.the-variants.{Stable, WithSliderAcc, WithoutSliderAcc}

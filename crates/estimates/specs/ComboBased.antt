@@ -9,9 +9,9 @@ use Rattle.records.specs.declared.play.OsuScoreOrigin.{OsuScoreOrigin}
 use Rattle.records.specs.declared.play.OsuScoreOrigin.the-variants.{Stable, WithSliderAcc, WithoutSliderAcc}
 use Rattle.records.specs.declared.play.Play.{Play}
 use Rattle.simulator.specs.declared.attributes.OsuDifficultyAttributes.{OsuDifficultyAttributes}
-use Rattle.estimates.specs.Counts.{imperfectHits}
+use Rattle.miss_calc.specs.Counts.{imperfectHits}
 use Rattle.estimates.specs.Accuracy.{largeTicks}
-use Rattle.estimates.specs.Threshold.{thresholdOf, cappedOf}
+use Rattle.miss_calc.specs.Threshold.{thresholdOf, cappedOf}
 
 -- how often the combo goes into a threshold that it stays below, else the misses
 unfoldable pub brokenOf : Float → ℕ → ℕ → Float

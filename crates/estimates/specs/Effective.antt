@@ -9,12 +9,12 @@ use Rattle.records.specs.Refusals.{pick}
 use Rattle.records.specs.declared.play.OsuHitResults.{OsuHitResults}
 use Rattle.records.specs.declared.play.Play.{Play}
 use Rattle.simulator.specs.declared.attributes.OsuDifficultyAttributes.{OsuDifficultyAttributes}
-use Rattle.estimates.specs.Counts.{totalHits}
+use Rattle.miss_calc.specs.Counts.{totalHits}
 use Rattle.estimates.specs.Accuracy.{accuracyOf}
 use Rattle.estimates.specs.ComboBased.{isClassicOf, comboBasedOf}
-use Rattle.estimates.specs.ScoreBased.{scoreBasedOf}
-use Rattle.estimates.specs.declared.legacy_score_miss_calc.MissCount.{MissCount}
-use Rattle.estimates.specs.declared.legacy_score_miss_calc.MissCount.the-variants as misses
+use Rattle.miss_calc.specs.ScoreBased.{scoreBasedOf}
+use Rattle.miss_calc.specs.declared.legacy_score_miss_calc.MissCount.{MissCount}
+use Rattle.miss_calc.specs.declared.legacy_score_miss_calc.MissCount.the-variants as misses
 use Rattle.estimates.specs.declared.calculator.Estimates.{Estimates}
 
 -- "A play with origin 1 or without a score has no score-based estimate"

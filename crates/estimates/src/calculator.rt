@@ -1,13 +1,13 @@
 // Of `OsuPerformanceCalculator`: the combo-based estimate and the effective miss count before its relax part.
-use crate::counts::monus;
-use crate::counts::total_hits;
-use crate::counts::total_imperfect_hits;
-use crate::legacy_score_miss_calc::MissCount;
-use crate::legacy_score_miss_calc::OsuLegacyScoreMissCalculator;
-use crate::legacy_score_miss_calc::cap_slider_breaks;
-use crate::legacy_score_miss_calc::full_combo_threshold;
 use crate::score_state::accuracy;
 use crate::score_state::large_ticks;
+use miss_calc::counts::monus;
+use miss_calc::counts::total_hits;
+use miss_calc::counts::total_imperfect_hits;
+use miss_calc::legacy_score_miss_calc::MissCount;
+use miss_calc::legacy_score_miss_calc::OsuLegacyScoreMissCalculator;
+use miss_calc::legacy_score_miss_calc::cap_slider_breaks;
+use miss_calc::legacy_score_miss_calc::full_combo_threshold;
 use numbers::minmax::max;
 use numbers::minmax::min;
 use numbers::rounding::float;

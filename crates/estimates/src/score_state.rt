@@ -1,6 +1,6 @@
 // `OsuHitResults::accuracy`.
-use crate::counts::least;
-use crate::counts::total_hits;
+use miss_calc::counts::least;
+use miss_calc::counts::total_hits;
 use numbers::rounding::float;
 use records::play::OsuHitResults;
 use records::play::OsuScoreOrigin;

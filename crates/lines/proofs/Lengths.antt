@@ -6,8 +6,8 @@ use lib.ListN.{length, length-append}
 use Rattle.text.proofs.Numbers.{length-below, length-decimal, length-float}
 use Rattle.simulator.specs.declared.attributes.ScoreAttributes.{ScoreAttributes}
 use Rattle.estimates.specs.declared.calculator.Estimates.{Estimates}
-use Rattle.estimates.specs.declared.legacy_score_miss_calc.MissCount.{MissCount}
-use Rattle.estimates.specs.declared.legacy_score_miss_calc.MissCount.the-variants as misses
+use Rattle.miss_calc.specs.declared.legacy_score_miss_calc.MissCount.{MissCount}
+use Rattle.miss_calc.specs.declared.legacy_score_miss_calc.MissCount.the-variants as misses
 use Rattle.lines.specs.Lines.{numberField, floatField, scoreBasedField, mapLine, playLine, refusedLine}
 
 length-number-field : (n : ℕ) → n < 2 ^ 64 → length (numberField n) ≤ 21

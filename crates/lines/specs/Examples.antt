@@ -3,7 +3,7 @@ use mathlib.Core.Path.{_≡_, refl}
 use lib.Ieee.{binary64, nan, ofBits, ofInt, round, toBits, isNan}
 use Rattle.numbers.specs.Floats.{whole}
 use Rattle.simulator.specs.declared.attributes.ScoreAttributes.{ScoreAttributes}
-use Rattle.estimates.specs.declared.legacy_score_miss_calc.MissCount.the-variants as misses
+use Rattle.miss_calc.specs.declared.legacy_score_miss_calc.MissCount.the-variants as misses
 use Rattle.text.specs.Ascii.{ascii}
 use Rattle.text.specs.Numbers.{decimalUpTo, decimalOf, hexOf, floatText}
 use Rattle.lines.specs.Lines.{numberField, floatField, scoreBasedField, countFields, mapLine, attributesLine, playLine, refusedLine}

@@ -9,8 +9,8 @@ use Rattle.text.specs.Numbers.{decimalOf, floatText}
 use Rattle.simulator.specs.declared.attributes.OsuDifficultyAttributes.{OsuDifficultyAttributes}
 use Rattle.simulator.specs.declared.attributes.ScoreAttributes.{ScoreAttributes}
 use Rattle.estimates.specs.declared.calculator.Estimates.{Estimates}
-use Rattle.estimates.specs.declared.legacy_score_miss_calc.MissCount.{MissCount}
-use Rattle.estimates.specs.declared.legacy_score_miss_calc.MissCount.the-variants as misses
+use Rattle.miss_calc.specs.declared.legacy_score_miss_calc.MissCount.{MissCount}
+use Rattle.miss_calc.specs.declared.legacy_score_miss_calc.MissCount.the-variants as misses
 
 -- a number in decimal
 unfoldable pub numberField : ℕ → List ℕ

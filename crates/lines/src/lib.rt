@@ -1,6 +1,6 @@
 // The lines of the programs, written into a lent space. Each function takes the place where its text starts and answers the place behind it.
 use estimates::calculator::Estimates;
-use estimates::legacy_score_miss_calc::MissCount;
+use miss_calc::legacy_score_miss_calc::MissCount;
 use simulator::attributes::OsuDifficultyAttributes;
 use simulator::attributes::ScoreAttributes;
 use text::put_decimal;

@@ -127,7 +127,7 @@ fn list(input: &[u8]) {
                 os::fail(b"standard output");
             }
         }
-        // The space is longer than any listing: `listing-told` of demands/proofs/Listings.
+        // The space is longer than any listing: `listing-told` of listing/proofs/Fits.
         Listed::NoRoom => never(),
     }
 }

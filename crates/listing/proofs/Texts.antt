@@ -9,7 +9,7 @@ use lib.Dec.{ltb}
 use lib.ListN.{length}
 use Rattle.text.specs.Space.{behind}
 use Rattle.lines.specs.Lines.{mapLine, refusedLine}
-use Rattle.records.specs.File.{fileOf}
+use Rattle.map_file.specs.File.{fileOf}
 use Rattle.simulator.specs.Attributes.{scoreAttributesAt}
 use Rattle.simulator.specs.declared.attributes.ScoreAttributes.{ScoreAttributes}
 use Rattle.scoring.specs.Scores.{Outcome, refusal, values, Scores, scoresOf, mapScoreOf}

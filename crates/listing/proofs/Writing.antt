@@ -8,11 +8,11 @@ use lib.ListN.{length}
 use Rattle.text.specs.Space.{putAt, behind}
 use Rattle.text.proofs.Space.{Written, Puts, next, length-put}
 use Rattle.lines.specs.Lines.{playLine}
-use Rattle.records.specs.File.{fileOf}
-use Rattle.records.proofs.Reading.{length-snoc}
+use Rattle.map_file.specs.File.{fileOf}
+use Rattle.map_file.proofs.Reading.{length-snoc}
 use Rattle.scoring.specs.Scores.{Outcome, refusal, values, Scores, scoresOf}
 use Rattle.scoring.specs.View.{wantedAfter, walkStart, walkedOf}
-use Rattle.scoring.specs.declared.play_score.PlayScore.{PlayScore}
+use Rattle.play_score.specs.declared.PlayScore.{PlayScore}
 use Rattle.scoring.specs.declared.plays.Wanted.{Wanted}
 use Rattle.scoring.specs.declared.plays.Wanted.the-variants as wanted
 use Rattle.scoring.specs.declared.plays.Walk.{Walk}

@@ -5,10 +5,10 @@ use lib.Dec.{ltb}
 use lib.ListN.{length}
 use Rattle.lines.specs.Lines.{mapLine, playLine, refusedLine}
 use Rattle.records.specs.Refusals.{pick}
-use Rattle.records.specs.File.{fileOf}
+use Rattle.map_file.specs.File.{fileOf}
 use Rattle.simulator.specs.Attributes.{scoreAttributesAt}
 use Rattle.scoring.specs.Scores.{Outcome, refusal, values, Scores, scoresOf}
-use Rattle.scoring.specs.declared.play_score.PlayScore.{PlayScore}
+use Rattle.play_score.specs.declared.PlayScore.{PlayScore}
 use Rattle.scoring.specs.declared.plays.Wanted.{Wanted}
 use Rattle.scoring.specs.declared.plays.Wanted.the-variants as wanted
 use Rattle.listing.specs.declared.Listed.{Listed}

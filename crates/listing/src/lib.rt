@@ -2,7 +2,7 @@
 use lines::put_map_line;
 use lines::put_play_line;
 use lines::put_refused_line;
-use records::file::Reader;
+use map_file::file::Reader;
 use scoring::plays::Walk;
 use scoring::plays::Walked;
 use scoring::plays::Wanted;
@@ -18,7 +18,7 @@ ghost use Prim.Native.Nat.{_<_, _^_};
 ghost use lib.ListN.{length};
 ghost use Rattle.text.specs.Space.{putAt, behind};
 ghost use Rattle.lines.specs.Lines.{mapLine};
-ghost use Rattle.records.specs.File.{fileOf};
+ghost use Rattle.map_file.specs.File.{fileOf};
 ghost use Rattle.scoring.specs.Scores.{scoresOf};
 ghost use Rattle.listing.specs.Listing.{wantedLine, indexAfter, IsGood, playsText, fileText, inputText, listedAt, listedOf};
 

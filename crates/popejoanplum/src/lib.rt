@@ -1,45 +1,42 @@
 // The engine for hosts in C and Rust: numbers, slices and #[repr(C)] structs by value. No function asks anything of its caller but valid slices
 // that do not overlap.
-mod answer; // the values of a map and of a play
-mod map; // settings, and what a map file holds
-mod play; // a play as a host gives it
-mod status; // what a call that writes answers
 
-use crate::answer::MapAnswer;
-use crate::answer::PlayAnswer;
-use crate::answer::given_answer_of;
-use crate::answer::listed_answer_of;
-use crate::answer::map_answer_of;
-use crate::map::HostSettings;
-use crate::map::MapInfo;
-use crate::map::map_info_of;
-use crate::map::settings_in;
-use crate::play::HostPlay;
-use crate::play::play_in;
-use crate::status::Status;
-use crate::status::status_of;
-use board::build::build;
 use board::edit::edit;
 use board::read::read;
+use board_build::build;
 use entries::entry::Entry;
-use records::file::read_map;
+use host::answer::MapAnswer;
+use host::answer::PlayAnswer;
+use host::answer::given_answer_of;
+use host::answer::listed_answer_of;
+use host::answer::map_answer_of;
+use host::map::HostSettings;
+use host::map::MapInfo;
+use host::map::map_info_of;
+use host::map::settings_in;
+use host::play::HostPlay;
+use host::play::play_in;
+use host::status::Status;
+use host::status::status_of;
+use map_file::file::read_map;
 use records::hit_object::HitObject;
 use scoring::score::score_map;
 use scoring::score::score_play;
 use scoring::score::score_play_at;
 use tree::size_of;
 ghost use mathlib.Core.Path.{_≡_};
-ghost use Rattle.records.specs.File.{fileOf};
-ghost use Rattle.records.specs.View.{answerOf};
-ghost use Rattle.scoring.specs.Scores.{scoresOf, mapScoreOf, givenAnswer, givenPlayOf, listedPlayOf};
+ghost use Rattle.map_file.specs.File.{fileOf};
+ghost use Rattle.map_file.specs.View.{answerOf};
+ghost use Rattle.play_score.specs.PlayRules.{givenAnswer};
+ghost use Rattle.scoring.specs.Scores.{scoresOf, mapScoreOf, givenPlayOf, listedPlayOf};
 ghost use Rattle.board.specs.Place.{writtenLeft};
-ghost use Rattle.board.specs.Build.{built};
+ghost use Rattle.board_build.specs.Build.{built};
 ghost use Rattle.board.specs.Edit.{editOf};
 ghost use Rattle.board.specs.Read.{readOf};
-ghost use Rattle.popejoanplum.specs.Status.{boardWords, statusLeft};
-ghost use Rattle.popejoanplum.specs.Map.{settingsIn, mapInfoOf};
-ghost use Rattle.popejoanplum.specs.Play.{playIn};
-ghost use Rattle.popejoanplum.specs.Answer.{mapAnswerOf, givenAnswerOf, listedAnswerOf};
+ghost use Rattle.host.specs.Status.{boardWords, statusLeft};
+ghost use Rattle.host.specs.Map.{settingsIn, mapInfoOf};
+ghost use Rattle.host.specs.Play.{playIn};
+ghost use Rattle.host.specs.Answer.{mapAnswerOf, givenAnswerOf, listedAnswerOf};
 
 // How many words a board for as many objects has; 0 where no map has as many.
 #[no_mangle]

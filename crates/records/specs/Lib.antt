@@ -3,7 +3,3 @@ pub mod Fields
 pub mod Objects
 pub mod Play
 pub mod Records
-pub mod Order
-pub mod File
-pub mod View
-pub mod Examples

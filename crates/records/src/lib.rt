@@ -1,7 +1,6 @@
 // The map file of document 01: its records, the order and limits of a file, and the refusals 1 to 8.
 pub mod beatmap; // settings and breaks
 pub mod fields; // floats of a record and their ranges
-pub mod file; // the order of the records, the whole file
 pub mod hit_object; // circles, sliders, spinners
 pub mod play;
 pub mod record; // what reading one record answers

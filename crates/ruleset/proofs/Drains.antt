@@ -11,7 +11,7 @@ use lib.ListN.{length, take, length-take}
 use Rattle.numbers.specs.Rounding.{saturated, roundTiesEvenI32}
 use Rattle.records.specs.Refusals.{pick}
 use Rattle.records.specs.Objects.{Object}
-use Rattle.records.specs.File.{Map}
+use Rattle.map_file.specs.File.{Map}
 use Rattle.records.specs.declared.beatmap.BreakPeriod.{BreakPeriod}
 use Rattle.encoding.specs.Limits.{MapWithin}
 use Rattle.ruleset.specs.Drain.{lengthOf, breaksLength, startOf, lastPlace, drainAt}

@@ -8,7 +8,7 @@ use lib.Ieee.{Float, binary32, binary64, ofBits, ofInt, le}
 use Rattle.numbers.specs.Floats.{whole, _⊕_, _⊗_, _⊘_}
 use Rattle.numbers.specs.MinMax.{clampOf}
 use Rattle.numbers.specs.Rounding.{roundTiesEvenI32}
-use Rattle.records.specs.File.{Map}
+use Rattle.map_file.specs.File.{Map}
 use Rattle.records.specs.declared.beatmap.Settings.{Settings}
 use Rattle.ruleset.specs.Drain.{drainAt}
 

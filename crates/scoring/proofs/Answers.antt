@@ -5,27 +5,27 @@ use Prim.Native.Nat.{ℕ, zero, suc, min}
 use native.Mathlib.Omega.{arith}
 use lib.ListN.{length}
 use Rattle.records.specs.Refusals.{Checked, good, refused}
-use Rattle.records.specs.File.{Map, File, Result, accepted, refusedAt, fileOf}
+use Rattle.map_file.specs.File.{Map, File, Result, accepted, refusedAt, fileOf}
 use Rattle.records.specs.declared.play.Play.{Play}
 use Rattle.encoding.specs.Limits.{MapWithin}
 use Rattle.encoding.proofs.Accepted.{accepted-within}
 use Rattle.simulator.specs.Attributes.{scoreAttributesAt}
-use Rattle.simulator.specs.Sums.{simulatedOf}
+use Rattle.file_sums.specs.Sums.{simulatedOf}
 use Rattle.simulator.specs.declared.attributes.ScoreAttributes.{ScoreAttributes}
-use Rattle.simulator.specs.declared.simulate.Simulated.the-variants as simulated
-use Rattle.simulator.proofs.Passed.{attributes-passed}
-use Rattle.scoring.specs.PlayRules.{playScore, scoredOf}
-use Rattle.scoring.specs.Scores.{Outcome, refusal, values, then, Scores, playScores, scoresOf, mapScoreOf, givenAnswer, givenScore, givenPlayOf, playAt, listedPlayOf}
+use Rattle.file_sums.specs.declared.simulate.Simulated.the-variants as simulated
+use Rattle.file_sums.proofs.Passed.{attributes-passed}
+use Rattle.play_score.specs.PlayRules.{playScore, scoredOf, givenAnswer, givenScore}
+use Rattle.scoring.specs.Scores.{Outcome, refusal, values, then, Scores, playScores, scoresOf, mapScoreOf, givenPlayOf, playAt, listedPlayOf}
 use Rattle.scoring.specs.View.{scoredIn, wantedOf, playsOf}
-use Rattle.scoring.specs.declared.play_score.PlayScore.{PlayScore}
-use Rattle.scoring.specs.declared.play_score.Scored.{Scored}
-use Rattle.scoring.specs.declared.play_score.Scored.the-variants as scored
+use Rattle.play_score.specs.declared.PlayScore.{PlayScore}
+use Rattle.play_score.specs.declared.Scored.{Scored}
+use Rattle.play_score.specs.declared.Scored.the-variants as scored
 use Rattle.scoring.specs.declared.plays.Wanted.{Wanted}
 use Rattle.scoring.specs.declared.plays.Wanted.the-variants as wanted
 use Rattle.scoring.specs.declared.plays.Plays.the-variants as answer
 use Rattle.scoring.specs.declared.score.MapScore.the-variants as map·score
-use Rattle.scoring.specs.declared.score.GivenPlay.{GivenPlay}
-use Rattle.scoring.specs.declared.score.GivenPlay.the-variants as given
+use Rattle.play_score.specs.declared.GivenPlay.{GivenPlay}
+use Rattle.play_score.specs.declared.GivenPlay.the-variants as given
 use Rattle.scoring.specs.declared.score.ListedPlay.the-variants as listed
 use Rattle.records.proofs.Laws.{never}
 

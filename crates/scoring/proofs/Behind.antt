@@ -7,16 +7,16 @@ use Prim.Native.Nat.{ℕ}
 use lib.ListN.{length}
 use Rattle.records.specs.Refusals.{Checked, good, refused, _>>_, refuse_when_}
 use Rattle.records.specs.Records.{play, playOf}
-use Rattle.records.specs.File.{Map, fileOf}
+use Rattle.map_file.specs.File.{Map, fileOf}
 use Rattle.records.specs.declared.play.Play.{Play}
 use Rattle.encoding.specs.Limits.{MapWithin, PlaySized}
 use Rattle.encoding.specs.Encoding.{mapFile, playBytes}
 use Rattle.encoding.proofs.RecordsBack.{play-read}
 use Rattle.encoding.proofs.RoundTrip.{RefusedBehind, PlayBehind, refused-play, last-play}
 use Rattle.simulator.specs.Attributes.{scoreAttributesAt}
-use Rattle.scoring.specs.PlayRules.{modsBad}
-use Rattle.scoring.specs.Scores.{Outcome, refusal, values, at-offset, then, Scores, playScoreOn, playScores, scoresOf, givenScore}
-use Rattle.scoring.specs.declared.play_score.PlayScore.{PlayScore}
+use Rattle.play_score.specs.PlayRules.{modsBad, givenScore}
+use Rattle.scoring.specs.Scores.{Outcome, refusal, values, at-offset, then, Scores, playScoreOn, playScores, scoresOf}
+use Rattle.play_score.specs.declared.PlayScore.{PlayScore}
 use Rattle.scoring.proofs.Lists.{scores-none, scores-one}
 
 -- a file's scores with one play

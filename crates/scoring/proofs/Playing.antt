@@ -11,36 +11,35 @@ use lib.ListN.{length, take, drop}
 use Rattle.records.specs.Refusals.{Checked, good, refused, pick}
 use Rattle.records.specs.Objects.{Object}
 use Rattle.records.specs.Records.{Content, header, break, object, play, Found, contentView}
-use Rattle.records.specs.Order.{recordOf}
-use Rattle.records.specs.File.{Map, File, Result, accepted, refusedAt, countsOf, with-record, follow, ended, fileFrom, fresh, fileOf}
-use Rattle.records.specs.View.{stepOf, countedIn}
+use Rattle.map_file.specs.Order.{recordOf}
+use Rattle.map_file.specs.File.{Map, File, Result, accepted, refusedAt, countsOf, with-record, follow, ended, fileFrom, fresh, fileOf}
+use Rattle.map_file.specs.View.{stepOf, countedIn}
 use Rattle.records.specs.declared.play.Play.{Play}
 use Rattle.records.specs.declared.record.Record.{Record}
 use Rattle.records.specs.declared.record.Record.the-variants as record·case
-use Rattle.records.specs.declared.file.Counts.{Counts}
-use Rattle.records.specs.declared.file.Reader.{Reader}
+use Rattle.map_file.specs.declared.file.Counts.{Counts}
+use Rattle.map_file.specs.declared.file.Reader.{Reader}
 use Rattle.records.specs.declared.hit_object.HitObject.{HitObject}
-use Rattle.records.specs.declared.file.Step.{Step}
-use Rattle.records.specs.declared.file.Step.the-variants as step
+use Rattle.map_file.specs.declared.file.Step.{Step}
+use Rattle.map_file.specs.declared.file.Step.the-variants as step
 use Rattle.records.proofs.All.{all-out}
-use Rattle.records.proofs.Reading.{Chain, start, Kept, Moved, Seen, seen, all-read, chain-on, chain-inside, chain-file, chain-plays, found-ordered, foundAt, with-last, kept-start, kept-step, kept-stop}
-use Rattle.records.proofs.Room.{placeOf, Begun, record-begun}
+use Rattle.map_file.proofs.Reading.{Chain, start, Kept, Moved, Seen, seen, all-read, chain-on, chain-inside, chain-file, chain-plays, found-ordered, foundAt, with-last, kept-start, kept-step, kept-stop}
+use Rattle.map_file.proofs.Room.{placeOf, Begun, record-begun}
 use Rattle.encoding.specs.Limits.{MapWithin}
 use Rattle.simulator.specs.Attributes.{scoreAttributesAt}
-use Rattle.simulator.specs.Limits.{Room}
-use Rattle.simulator.specs.Sums.{sumsOf, withRecord, Complete, attributesIn}
-use Rattle.simulator.specs.Runs.{Steps, none, more, Ready}
+use Rattle.file_sums.specs.Sums.{Room, sumsOf, withRecord, Complete, attributesIn}
+use Rattle.file_sums.specs.Runs.{Steps, none, more, Ready}
 use Rattle.simulator.specs.declared.attributes.ScoreAttributes.{ScoreAttributes}
-use Rattle.simulator.specs.declared.simulate.Sums.{Sums}
-use Rattle.simulator.proofs.Passed.{attributes-passed}
-use Rattle.simulator.proofs.Summing.{Summing, summing-room, summing-step, complete, attributes-are, kept-summing, kept-limits}
-use Rattle.simulator.proofs.Running.{summing-steps, summing-ready}
-use Rattle.scoring.specs.PlayRules.{playScore, scoredOf}
+use Rattle.file_sums.specs.declared.simulate.Sums.{Sums}
+use Rattle.file_sums.proofs.Passed.{attributes-passed}
+use Rattle.file_sums.proofs.Summing.{Summing, summing-room, summing-step, complete, attributes-are, kept-summing, kept-limits}
+use Rattle.file_sums.proofs.Running.{summing-steps, summing-ready}
+use Rattle.play_score.specs.PlayRules.{playScore, scoredOf}
 use Rattle.scoring.specs.Scores.{Outcome, refusal, values, then, Scores, playScoreOn, playScores, scoresOf}
 use Rattle.scoring.specs.View.{wantedOf, wantedAfter, walkStart, scoredIn, scoredAt, recordScoreAt, walkedBehind, walkedStep, walkedOf, playsOf}
 use Rattle.scoring.specs.Reached.{Reached, Scorable, RunOn, still, ran}
-use Rattle.scoring.specs.declared.play_score.PlayScore.{PlayScore}
-use Rattle.scoring.specs.declared.play_score.Scored.{Scored}
+use Rattle.play_score.specs.declared.PlayScore.{PlayScore}
+use Rattle.play_score.specs.declared.Scored.{Scored}
 use Rattle.scoring.specs.declared.plays.Wanted.{Wanted}
 use Rattle.scoring.specs.declared.plays.Walk.{Walk}
 use Rattle.scoring.specs.declared.plays.Walked.{Walked}

@@ -1,4 +1,3 @@
-pub mod PlayRules
 pub mod Scores
 pub mod View
 pub mod Reached

@@ -2,14 +2,14 @@
 use Prim.Native.Nat.{ℕ, _<_}
 use mathlib.Core.Path.{_≡_}
 use mathlib.Core.List.{List}
-use Rattle.records.specs.File.{File}
-use Rattle.records.specs.declared.file.Reader.{Reader}
+use Rattle.map_file.specs.File.{File}
+use Rattle.map_file.specs.declared.file.Reader.{Reader}
 use Rattle.records.specs.declared.record.Record.{Record}
 use Rattle.records.specs.declared.record.Record.the-variants as record·case
-use Rattle.records.proofs.Reading.{Chain, Kept}
-use Rattle.simulator.specs.Sums.{sumsOf, Complete}
-use Rattle.simulator.specs.Runs.{Steps}
-use Rattle.simulator.specs.declared.simulate.Sums.{Sums}
+use Rattle.map_file.proofs.Reading.{Chain, Kept}
+use Rattle.file_sums.specs.Sums.{sumsOf, Complete}
+use Rattle.file_sums.specs.Runs.{Steps}
+use Rattle.file_sums.specs.declared.simulate.Sums.{Sums}
 use Rattle.scoring.specs.declared.plays.Walk.{Walk}
 
 pub record Reached (s : List ℕ) (p : ℕ) (w : Walk) : Type 0 where

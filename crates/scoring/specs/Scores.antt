@@ -2,19 +2,16 @@
 use Prim.Native.Nat.{ℕ, zero, suc}
 use mathlib.Core.List.{List, [], _∷_}
 use lib.ListN.{length}
-use Rattle.records.specs.Refusals.{Checked, good, refused, _>>_, refuse_when_}
-use Rattle.records.specs.File.{Map, Result, accepted, refusedAt}
+use Rattle.records.specs.Refusals.{Checked, good, refused}
+use Rattle.map_file.specs.File.{Map, Result, accepted, refusedAt}
 use Rattle.records.specs.declared.play.Play.{Play}
 use Rattle.simulator.specs.Attributes.{scoreAttributesAt}
-use Rattle.simulator.specs.declared.attributes.ScoreAttributes.{ScoreAttributes}
-use Rattle.scoring.specs.PlayRules.{modsBad, playScore, scoredOf}
-use Rattle.scoring.specs.declared.play_score.PlayScore.{PlayScore}
-use Rattle.scoring.specs.declared.play_score.Scored.{Scored}
-use Rattle.scoring.specs.declared.play_score.Scored.the-variants as scored
+use Rattle.play_score.specs.PlayRules.{playScore, givenAnswer, givenScore}
+use Rattle.play_score.specs.declared.PlayScore.{PlayScore}
 use Rattle.scoring.specs.declared.score.MapScore.{MapScore}
 use Rattle.scoring.specs.declared.score.MapScore.the-variants as map·score
-use Rattle.scoring.specs.declared.score.GivenPlay.{GivenPlay}
-use Rattle.scoring.specs.declared.score.GivenPlay.the-variants as given
+use Rattle.play_score.specs.declared.GivenPlay.{GivenPlay}
+use Rattle.play_score.specs.declared.GivenPlay.the-variants as given
 use Rattle.scoring.specs.declared.score.ListedPlay.{ListedPlay}
 use Rattle.scoring.specs.declared.score.ListedPlay.the-variants as listed
 
@@ -57,20 +54,7 @@ abbrev pub mapScoreOf : Outcome Scores → MapScore
 mapScoreOf (refusal n at) = map·score.Refused n at
 mapScoreOf (values s) = map·score.Map (scoreAttributesAt (s .map) (length (s .map .objects)))
 
--- a play that is given beside the file has no offset
-abbrev pub givenOf : Scored → GivenPlay
-givenOf (scored.Refused n) = given.Refused n 0
-givenOf (scored.Score s) = given.Score s
-
-abbrev pub givenAnswer : Checked PlayScore → GivenPlay
-givenAnswer x = givenOf (scoredOf x)
-
--- "The checks of one record run: .. fixed fields in layout order (4 or 8 ..) ..; a play then 9 and 10"
-unfoldable pub givenScore : Play → ScoreAttributes → Checked PlayScore
-givenScore p a = do
-  refuse 8 when modsBad (p .mods)
-  playScore p a
-
+-- the score of a play that is given beside the file
 abbrev pub givenPlayOf : Play → Outcome Scores → GivenPlay
 givenPlayOf p (refusal n at) = given.Refused n at
 givenPlayOf p (values s) = givenAnswer (givenScore p (scoreAttributesAt (s .map) (p .«passed_objects»)))

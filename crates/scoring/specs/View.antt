@@ -4,23 +4,23 @@ use mathlib.Core.List.{List, [], _∷_}
 use lib.Dec.{eqb}
 use lib.ListN.{length, take, drop}
 use Rattle.records.specs.Refusals.{pick}
-use Rattle.records.specs.Order.{recordOf}
-use Rattle.records.specs.File.{Result, accepted, refusedAt, fileOf}
-use Rattle.records.specs.View.{stepOf, freshOf}
+use Rattle.map_file.specs.Order.{recordOf}
+use Rattle.map_file.specs.File.{Result, accepted, refusedAt, fileOf}
+use Rattle.map_file.specs.View.{stepOf, freshOf}
 use Rattle.records.specs.declared.play.Play.{Play}
 use Rattle.records.specs.declared.record.Record.{Record}
 use Rattle.records.specs.declared.record.Record.the-variants as record·case
-use Rattle.records.specs.declared.file.Reader.{Reader}
-use Rattle.records.specs.declared.file.Step.{Step}
-use Rattle.records.specs.declared.file.Step.the-variants as step
+use Rattle.map_file.specs.declared.file.Reader.{Reader}
+use Rattle.map_file.specs.declared.file.Step.{Step}
+use Rattle.map_file.specs.declared.file.Step.the-variants as step
 use Rattle.simulator.specs.Attributes.{scoreAttributesAt}
-use Rattle.simulator.specs.Sums.{sumsOf, withRecord, attributesIn}
-use Rattle.simulator.specs.declared.simulate.Sums.{Sums}
-use Rattle.scoring.specs.PlayRules.{playScore, scoredOf}
+use Rattle.file_sums.specs.Sums.{sumsOf, withRecord, attributesIn}
+use Rattle.file_sums.specs.declared.simulate.Sums.{Sums}
+use Rattle.play_score.specs.PlayRules.{playScore, scoredOf}
 use Rattle.scoring.specs.Scores.{Outcome, refusal, values, Scores, playScoreOn}
-use Rattle.scoring.specs.declared.play_score.PlayScore.{PlayScore}
-use Rattle.scoring.specs.declared.play_score.Scored.{Scored}
-use Rattle.scoring.specs.declared.play_score.Scored.the-variants as scored
+use Rattle.play_score.specs.declared.PlayScore.{PlayScore}
+use Rattle.play_score.specs.declared.Scored.{Scored}
+use Rattle.play_score.specs.declared.Scored.the-variants as scored
 use Rattle.scoring.specs.declared.plays.Wanted.{Wanted}
 use Rattle.scoring.specs.declared.plays.Wanted.the-variants as wanted
 use Rattle.scoring.specs.declared.plays.RecordScore.{RecordScore}

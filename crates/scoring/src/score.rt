@@ -1,24 +1,18 @@
 // The score of a map file, of a play on it, and of a play in it.
-use crate::play_score::PlayScore;
-use crate::play_score::Scored;
-use crate::play_score::has_bad_mods;
-use crate::play_score::score_on;
 use crate::plays::Plays;
 use crate::plays::Wanted;
 use crate::plays::check_plays;
+use play_score::GivenPlay;
+use play_score::PlayScore;
+use play_score::score_given;
 use records::play::Play;
 use simulator::attributes::ScoreAttributes;
 ghost use mathlib.Core.Path.{_≡_};
-ghost use Rattle.records.specs.File.{fileOf};
-ghost use Rattle.scoring.specs.Scores.{scoresOf, mapScoreOf, givenOf, givenAnswer, givenScore, givenPlayOf, listedPlayOf};
+ghost use Rattle.map_file.specs.File.{fileOf};
+ghost use Rattle.scoring.specs.Scores.{scoresOf, mapScoreOf, givenPlayOf, listedPlayOf};
 
 pub enum MapScore {
     Map(ScoreAttributes),
-    Refused { number: u8, offset: usize },
-}
-
-pub enum GivenPlay {
-    Score(PlayScore),
     Refused { number: u8, offset: usize },
 }
 
@@ -36,29 +30,6 @@ pub fn score_map(s: &[u8]) -> MapScore
         Plays::Refused { number, offset } => MapScore::Refused { number, offset },
         Plays::Good(a, _) => MapScore::Map(a),
     }
-}
-
-// A play that is not in the file has no offset: its refusals are at 0.
-pub fn given(scored: Scored) -> GivenPlay
-    ensures { λ r. ⌜ r ≡ givenOf scored ⌝ }
-{
-    match scored {
-        Scored::Refused(number) => GivenPlay::Refused { number, offset: 0 },
-        Scored::Score(score) => GivenPlay::Score(score),
-    }
-}
-
-fn score_given(play: Play, a: ScoreAttributes) -> GivenPlay
-    ensures { λ r. ⌜ r ≡ givenAnswer (givenScore play a) ⌝ }
-{
-    let mods = play.mods;
-    if has_bad_mods(mods) {
-        return GivenPlay::Refused {
-            number: 8,
-            offset: 0,
-        };
-    }
-    given(score_on(play, a))
 }
 
 // The score of a play on a map file.

@@ -8,7 +8,4 @@ pub mod Bounds
 pub mod Exact
 pub mod Sums
 pub mod Points
-pub mod Passed
-pub mod Summing
-pub mod Tallies
-pub mod Running
+pub mod Few

@@ -6,7 +6,7 @@ use lib.ListN.{take}
 use lib.Ieee.{Float}
 use Rattle.numbers.specs.Floats.{whole, _⊘_}
 use Rattle.records.specs.Refusals.{pick}
-use Rattle.records.specs.File.{Map}
+use Rattle.map_file.specs.File.{Map}
 use Rattle.ruleset.specs.Stars.{multiplierAt}
 use Rattle.simulator.specs.Walk.{State, fresh, after}
 use Rattle.simulator.specs.Nested.{noObject, countedAll, nestedScoreOf}

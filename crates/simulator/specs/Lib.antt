@@ -5,5 +5,3 @@ pub mod Nested
 pub mod Attributes
 pub mod Limits
 pub mod View
-pub mod Sums
-pub mod Runs

@@ -4,9 +4,6 @@ use Rattle.simulator.specs.Walk.{State}
 use Rattle.simulator.specs.declared.legacy_score.NestedScorePerObject.{NestedScorePerObject}
 use Rattle.records.specs.declared.hit_object.HitObjectKind.{HitObjectKind}
 use Rattle.records.specs.declared.hit_object.HitObjectKind.the-variants as kind
-use Rattle.simulator.specs.declared.simulate.Sums.{Sums}
-use Rattle.records.specs.declared.record.Record.{Record}
-use Rattle.records.specs.declared.record.Record.the-variants as record·case
 
 -- an object raises the combo by at most 1,001, a slider's head, 999 items and tail, and gives at most 30 for each of these and 300. The combo
 -- of 8,192 objects is at most 8,200,192. Of a spinner's at most 2 ^ 31 half spins each gives at most 1,100 and 50.
@@ -37,10 +34,3 @@ abbrev pub nestedCount : HitObjectKind → ℕ
 nestedCount kind.Circle = 0
 nestedCount (kind.Slider s) = s .repeats + s .ticks + 1
 nestedCount (kind.Spinner s) = 0
-
--- there is room for one more record: for an object, in each sum
-abbrev pub Room : Sums → Record → Type 0
-Room sums (record·case.Header s) = Unit
-Room sums (record·case.Break b) = Unit
-Room sums (record·case.Object o) = Within 8191 (sums .score) × Counted 8191 (sums .nested) × (nestedCount (o .kind) ≤ 1000)
-Room sums (record·case.Play p) = Unit

@@ -2,5 +2,3 @@
 pub mod attributes; // what goes to the estimates
 pub mod legacy_score; // the nested score
 pub mod legacy_score_simulator; // the running state
-pub mod simulate; // a map file
-pub mod tally; // a run of objects with few counters

@@ -15,7 +15,7 @@ use denote.Ref.{now}
 use Rattle.listing.specs.Listing.{inputText, listedOf}
 use Rattle.listing.specs.declared.Listed.{Listed}
 use Rattle.listing.specs.declared.Listed.the-variants as listed
-use Rattle.demands.proofs.Listings.{listing-told}
+use Rattle.listing.proofs.Fits.{listing-told}
 use borrow.Author.Needs.{needs}
 use Rattle.list.proofs.list.Statement.{statement}
 use Rattle.list.proofs.list.Tie as tie

@@ -1,6 +1,6 @@
 -- What the call answers crosses as the definition says.
 use mathlib.Core.Path.{ap, _∙_}
-use Rattle.popejoanplum.specs.Map.{mapInfoOf}
+use Rattle.host.specs.Map.{mapInfoOf}
 use borrow.Author.Needs.{needs}
 use Rattle.popejoanplum.proofs.pjp_read_map.Statement.{statement}
 use Rattle.popejoanplum.proofs.pjp_read_map.Tie as tie

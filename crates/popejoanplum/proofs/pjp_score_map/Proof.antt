@@ -1,6 +1,6 @@
 -- What the call answers crosses as the definition says.
 use mathlib.Core.Path.{ap, _∙_}
-use Rattle.popejoanplum.specs.Answer.{mapAnswerOf}
+use Rattle.host.specs.Answer.{mapAnswerOf}
 use borrow.Author.Needs.{needs}
 use Rattle.popejoanplum.proofs.pjp_score_map.Statement.{statement}
 use Rattle.popejoanplum.proofs.pjp_score_map.Tie as tie

@@ -1,6 +1,6 @@
 -- What the call answers crosses as the definition says.
 use mathlib.Core.Path.{ap, _∙_}
-use Rattle.popejoanplum.specs.Answer.{listedAnswerOf}
+use Rattle.host.specs.Answer.{listedAnswerOf}
 use borrow.Author.Needs.{needs}
 use Rattle.popejoanplum.proofs.pjp_score_play_at.Statement.{statement}
 use Rattle.popejoanplum.proofs.pjp_score_play_at.Tie as tie

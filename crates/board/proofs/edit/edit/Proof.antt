@@ -10,7 +10,7 @@ use Rattle.records.specs.Refusals.{Checked}
 use Rattle.records.specs.declared.hit_object.HitObject.{HitObject}
 use Rattle.records.proofs.Laws.{so}
 use Rattle.simulator.specs.Limits.{nestedCount}
-use Rattle.simulator.proofs.Summing.{kind-few}
+use Rattle.simulator.proofs.Few.{kind-few}
 use Rattle.entries.specs.Entry.{entryOf, inLimits}
 use Rattle.entries.specs.declared.entry.Entry.{Entry}
 use Rattle.tree.specs.Size.{levelsOf, capOf}

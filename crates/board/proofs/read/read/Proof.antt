@@ -2,7 +2,7 @@
 use mathlib.Core.Path.{_≡_, refl, sym, ap, _∙_, subst}
 use native.Mathlib.Omega.{arith}
 use Rattle.records.proofs.Laws.{so}
-use Rattle.scoring.specs.Scores.{givenAnswer}
+use Rattle.play_score.specs.PlayRules.{givenAnswer}
 use Rattle.board.proofs.Rooms as rooms
 use Rattle.board.proofs.Readings as readings
 use borrow.Author.Needs.{needs}

@@ -3,8 +3,7 @@ use Prim.Native.Nat.{ℕ, _≤_, min}
 use mathlib.Core.Path.{_≡_, refl, sym, ap, _∙_, subst}
 use native.Mathlib.Omega.{arith}
 use Rattle.records.proofs.Laws.{so}
-use Rattle.scoring.specs.PlayRules.{playScore, scoredOf}
-use Rattle.scoring.specs.Scores.{givenOf, givenAnswer}
+use Rattle.play_score.specs.PlayRules.{playScore, scoredOf, givenOf, givenAnswer}
 use Rattle.simulator.specs.declared.attributes.ScoreAttributes.{ScoreAttributes}
 use Rattle.board.specs.Search.{foundOf}
 use Rattle.board.proofs.Searches as searches

@@ -2,7 +2,7 @@
 use mathlib.Core.Path.{refl}
 use borrow.Author.Tests.{eqb-true}
 use Rattle.scoring.specs.Reached.{still, ran}
-use Rattle.simulator.proofs.Running.{summing-steps, summing-ready, steps-steps}
+use Rattle.file_sums.proofs.Running.{summing-steps, summing-ready, steps-steps}
 use Rattle.scoring.proofs.Playing.{reached-summing, reached-ready}
 use Rattle.scoring.proofs.plays.run_on.Statement.{statement}
 use Rattle.scoring.proofs.plays.run_on.Tie as tie

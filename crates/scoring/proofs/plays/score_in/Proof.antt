@@ -1,7 +1,7 @@
 -- The attributes that the simulation gives are those of the definition.
 use Rattle.scoring.proofs.Answers.{in-refused, in-map}
 use denote.Ref.{now}
-use Rattle.records.specs.File.{fileOf}
+use Rattle.map_file.specs.File.{fileOf}
 use Rattle.records.proofs.Laws.{so}
 use borrow.Author.Needs.{needs}
 use Rattle.scoring.proofs.plays.score_in.Statement.{statement}

@@ -1,7 +1,7 @@
 -- The file is read with as many objects as the play passed, and the play is scored on their attributes.
 use denote.Ref.{now}
 use mathlib.Core.Path.{refl}
-use Rattle.records.specs.File.{fileOf}
+use Rattle.map_file.specs.File.{fileOf}
 use Rattle.records.proofs.Laws.{so}
 use Rattle.scoring.specs.Scores.{scoresOf}
 use Rattle.scoring.proofs.Answers.{play-refused, play-scored}

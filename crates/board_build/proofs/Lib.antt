@@ -1,0 +1,2 @@
+pub mod LayingRight
+pub mod BuiltRight

@@ -1,0 +1,62 @@
+-- A build's pass over a map file: each object's own entry and its start are laid at its place.
+use Prim.Native.Nat.{ℕ, _+_, _*_, _≤_, _<_}
+use mathlib.Core.Path.{_≡_}
+use mathlib.Core.List.{List, _++_}
+use lib.Dec.{eqb}
+use lib.Ieee.{Float}
+use lib.ListN.{length, drop, set}
+use Rattle.records.specs.Refusals.{pick}
+use Rattle.records.specs.Objects.{Object}
+use Rattle.map_file.specs.File.{File, Result, accepted, refusedAt}
+use Rattle.records.specs.declared.record.Record.{Record}
+use Rattle.records.specs.declared.record.Record.the-variants as record·case
+use Rattle.records.specs.declared.record.Read.{Read}
+use Rattle.records.specs.declared.record.Read.the-variants as read
+use Rattle.simulator.specs.Limits.{nestedCount}
+use Rattle.entries.specs.Entry.{ownEntry}
+use Rattle.entries.specs.Words.{putEntry}
+use Rattle.tree.specs.Board.{startsOf}
+use Rattle.tree.specs.Build.{laid}
+
+-- there is room for an object at its place
+abbrev pub LaysRecord : ℕ → ℕ → Record → List ℕ → List Float → Type 0
+LaysRecord cap place (record·case.Header s) b ts = Unit
+LaysRecord cap place (record·case.Break x) b ts = Unit
+LaysRecord cap place (record·case.Object o) b ts =
+    (nestedCount (o .kind) ≤ 1000) × (place < cap) × (26 * cap ≤ length b) × (place < length ts)
+LaysRecord cap place (record·case.Play p) b ts = Unit
+
+abbrev pub recordLaid : ℕ → ℕ → Record → List ℕ → List Float → List ℕ × List Float
+recordLaid cap place (record·case.Header s) b ts = (b, ts)
+recordLaid cap place (record·case.Break x) b ts = (b, ts)
+recordLaid cap place (record·case.Object o) b ts = (putEntry b (cap + place) (ownEntry (o .kind)), set ts place (o .«start_time»))
+recordLaid cap place (record·case.Play p) b ts = (b, ts)
+
+-- what an object lays as it was read, and its size
+abbrev pub LaysRead : ℕ → ℕ → Read → List ℕ → List Float → Type 0
+LaysRead cap place (read.Refused n) b ts = Unit
+LaysRead cap place (read.Good item n) b ts = LaysRecord cap place item b ts
+
+abbrev pub readLaid : ℕ → ℕ → Read → List ℕ → List Float → ℕ × List ℕ × List Float
+readLaid cap place (read.Refused n) b ts = (0, b, ts)
+readLaid cap place (read.Good item n) b ts = let after = recordLaid cap place item b ts in (n, after .0, after .1)
+
+-- the size of a record that is no object, by its place in the order: a header, a break or a play
+abbrev pub sizeOf : ℕ → ℕ
+sizeOf rank = pick (eqb rank 1) 14 (pick (eqb rank 2) 18 44)
+
+-- an accepted file, and room for its objects
+pub record Lays (cap : ℕ) (r : Result) (b : List ℕ) (ts : List Float) : Type 0 where
+  pub file : File
+  pub read : r ≡ accepted file
+  pub places : length (file .map .objects) ≤ cap
+  pub words : 26 * cap ≤ length b
+  pub numbers : length (file .map .objects) ≤ length ts
+
+-- the objects of a file
+abbrev pub objectsOf : Result → List Object
+objectsOf (accepted f) = f .map .objects
+objectsOf (refusedAt n at f) = f .map .objects
+
+abbrev pub objectsLaid : ℕ → Result → List ℕ → List Float → List ℕ × List Float
+objectsLaid cap r b ts = (laid cap (objectsOf r) b, startsOf (objectsOf r) ++ drop (length (objectsOf r)) ts)

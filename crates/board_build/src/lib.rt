@@ -1,0 +1,128 @@
+// The board and the start table of a map file.
+use board::place::Room;
+use board::place::Written;
+use board::place::room_for;
+use entries::entry::Entry;
+use entries::words::store;
+use map_file::file::rank_of;
+use numbers::words::word_at;
+use records::hit_object;
+use records::record::Read;
+use records::record::Record;
+use scoring::plays::Plays;
+use scoring::plays::check_plays;
+use tree::build::fill;
+ghost use mathlib.Core.Path.{_≡_};
+ghost use Rattle.records.specs.Records.{readOf, objectOf};
+ghost use Rattle.map_file.specs.File.{fileOf};
+ghost use Rattle.scoring.specs.Scores.{scoresOf};
+ghost use Rattle.board_build.specs.Build.{built};
+ghost use Rattle.board_build.specs.Laying.{LaysRecord, recordLaid, LaysRead, readLaid, sizeOf, Lays, objectsLaid};
+
+// An object's own entry and its start at its place; other records have neither.
+fn lay_record(board: &mut [u64], starts: &mut [f64], cap: usize, place: usize, item: Record)
+    requires { ⌜ LaysRecord cap place item (now board) (now starts) ⌝ }
+    ensures { λ _. ⌜ (now (board .exit), now (starts .exit)) ≡ recordLaid cap place item (now (board .entry)) (now (starts .entry)) ⌝ }
+{
+    match item {
+        Record::Object(object) => {
+            store(board, cap + place, Entry::own(object));
+            starts[place] = object.start_time;
+        }
+        Record::Header(_) => {}
+        Record::Break(_) => {}
+        Record::Play(_) => {}
+    }
+}
+
+// Lays an object as it was read, and gives its size.
+fn lay_read(found: Read, board: &mut [u64], starts: &mut [f64], cap: usize, place: usize) -> usize
+    requires { ⌜ LaysRead cap place found (now board) (now starts) ⌝ }
+    ensures { λ x. ⌜ (x, now (board .exit), now (starts .exit)) ≡ readLaid cap place found (now (board .entry)) (now (starts .entry)) ⌝ }
+{
+    match found {
+        Read::Refused(_) => 0,
+        Read::Good(item, size) => {
+            lay_record(board, starts, cap, place, item);
+            size
+        }
+    }
+}
+
+// Lays the object that r starts with, and gives its size. The file is accepted: order, counts and bonus are checked. Each kind has its reading and
+// its laying in one piece.
+fn lay_object(
+    r: &[u8],
+    mark: u64,
+    board: &mut [u64],
+    starts: &mut [f64],
+    cap: usize,
+    place: usize,
+) -> usize
+    requires { ⌜ LaysRead cap place (readOf (objectOf (now r) mark)) (now board) (now starts) ⌝ }
+    ensures { λ x. ⌜ (x, now (board .exit), now (starts .exit)) ≡ readLaid cap place (readOf (objectOf (now (r .entry)) mark)) (now (board .entry)) (now (starts .entry)) ⌝ }
+{
+    if mark == hit_object::CI {
+        return lay_read(hit_object::read_circle(r), board, starts, cap, place);
+    }
+    if mark == hit_object::SL {
+        return lay_read(hit_object::read_slider(r), board, starts, cap, place);
+    }
+    if mark == hit_object::SP {
+        return lay_read(hit_object::read_spinner(r), board, starts, cap, place);
+    }
+    0
+}
+
+// The size of a record that is no object, by its place in the order.
+fn size_of(rank: u8) -> usize
+    ensures { λ r. ⌜ r ≡ sizeOf rank ⌝ }
+{
+    if rank == 1 {
+        return 14;
+    }
+    if rank == 2 {
+        return 18;
+    }
+    44
+}
+
+// The own entries and the starts of an accepted file's objects.
+fn lay(file: &[u8], board: &mut [u64], starts: &mut [f64], cap: usize)
+    requires { ⌜ Lays cap (fileOf (now file)) (now board) (now starts) ⌝ }
+    ensures { λ _. ⌜ (now (board .exit), now (starts .exit)) ≡ objectsLaid cap (fileOf (now (file .entry))) (now (board .entry)) (now (starts .entry)) ⌝ }
+{
+    let mut at = 0;
+    let mut place = 0;
+    while at < file.len() {
+        let r = &file[at..];
+        let mark = word_at(r, 0, 2);
+        let rank = rank_of(mark);
+        if rank == 3 {
+            at += lay_object(r, mark, board, starts, cap, place);
+            place += 1;
+        } else {
+            at += size_of(rank);
+        }
+    }
+}
+
+// Checks a map file, its plays included, and writes its board and start table. A second pass writes, so that a refused file changes nothing.
+pub fn build(file: &[u8], board: &mut [u64], starts: &mut [f64]) -> Written
+    ensures { λ r. ⌜ (r, now (board .exit), now (starts .exit)) ≡ built (scoresOf (fileOf (now (file .entry)))) (now (board .entry)) (now (starts .entry)) ⌝ }
+{
+    match check_plays(file, u64::MAX, 0) {
+        Plays::Refused { number, offset } => Written::Refused { number, offset },
+        Plays::Good(a, _) => {
+            let count = a.object_count as usize;
+            match room_for(board, starts, count) {
+                Room::Refused(number) => Written::Refused { number, offset: 0 },
+                Room::Is(size) => {
+                    lay(file, board, starts, size.cap);
+                    fill(board, size.cap, count);
+                    Written::Done
+                }
+            }
+        }
+    }
+}

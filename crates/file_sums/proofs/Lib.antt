@@ -1,0 +1,4 @@
+pub mod Passed
+pub mod Summing
+pub mod Tallies
+pub mod Running

@@ -1,0 +1,51 @@
+-- The last check of a record, its bonus, on what the code keeps of the record.
+use mathlib.Core.Path.{_≡_, refl, sym, ap, _∙_}
+use mathlib.Core.Bool.{Bool, true, false}
+use Prim.Native.Nat.{ℕ}
+use native.Mathlib.Omega.{arith}
+use Rattle.records.specs.Refusals.{Checked, good, refused, _>>=_, _>>_, refuse_when_}
+use Rattle.records.specs.Objects.{circle, slider, spinner, Kind, Object, kindView, kindBonus}
+use Rattle.records.specs.Records.{Content, header, break, object, play, Found, contentView, readOf}
+use Rattle.map_file.specs.Order.{overBonus, contentBonus}
+use Rattle.map_file.specs.View.{bonusIn, kindBonusIn}
+use Rattle.records.specs.declared.record.Record.{Record}
+use Rattle.records.specs.declared.record.Read.{Read}
+use Rattle.records.specs.declared.record.Read.the-variants.{Good, Refused}
+use Rattle.map_file.specs.declared.file.Counts.{Counts}
+use Rattle.records.proofs.Laws.{never}
+
+pub bonus-kept : (x : Content) → bonusIn (contentView x) ≡ contentBonus x
+bonus-kept (header s) = refl
+bonus-kept (break b) = refl
+bonus-kept (object o) = kept (o .kind)
+  where
+    kept : (k : Kind) → kindBonusIn (kindView k) ≡ kindBonus k
+    kept circle = refl
+    kept (slider is) = refl
+    kept (spinner d) = refl
+bonus-kept (play p) = refl
+
+-- a record and the check of its bonus
+abbrev pub held : Counts → Found → Found
+held c x = x >>= (λ f. (refuse 7 when overBonus c (contentBonus (f .0))) >> good f)
+
+pub held-refused : (c : Counts) (x : Found) (n : ℕ) → Refused n ≡ readOf x → Refused n ≡ readOf (held c x)
+unfolding _>>=_
+held-refused c (refused m) n e = e
+held-refused c (good f) n e = never (cc)
+
+pub held-over : (c : Counts) (x : Found) (r : Record) (n b : ℕ) → Good r n ≡ readOf x → b ≡ bonusIn r → overBonus c b ≡ true → Refused 7 ≡ readOf (held c x)
+unfolding _>>=_ _>>_ refuse_when_
+held-over c (refused m) r n b e p q = never (cc)
+held-over c (good f) r n b e p q =
+    let k : r ≡ contentView (f .0) = cc in
+    let h : overBonus c (contentBonus (f .0)) ≡ true = ap (overBonus c) (sym (p ∙ ap bonusIn k ∙ bonus-kept (f .0))) ∙ q in
+    simp h
+
+pub held-good : (c : Counts) (x : Found) (r : Record) (n b : ℕ) → Good r n ≡ readOf x → b ≡ bonusIn r → overBonus c b ≡ false → Good r n ≡ readOf (held c x)
+unfolding _>>=_ _>>_ refuse_when_
+held-good c (refused m) r n b e p q = never (cc)
+held-good c (good f) r n b e p q =
+    let k : r ≡ contentView (f .0) = cc in
+    let h : overBonus c (contentBonus (f .0)) ≡ false = ap (overBonus c) (sym (p ∙ ap bonusIn k ∙ bonus-kept (f .0))) ∙ q in
+    simp h e

@@ -1,0 +1,4 @@
+pub mod Order
+pub mod File
+pub mod View
+pub mod Examples

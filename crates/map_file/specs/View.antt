@@ -1,0 +1,81 @@
+-- What the code keeps of a file: offsets and counts in place of the lists.
+use Prim.Native.Nat.{ℕ, _+_, _≤_, _<_}
+use mathlib.Core.Bool.{Bool, true, false}
+use mathlib.Core.List.{List}
+use lib.Dec.{ltb}
+use lib.Ieee.{binary32, ofBits}
+use lib.ListN.{length}
+use Rattle.spinner.specs.Bonus.{legacyOf}
+use Rattle.records.specs.Refusals.{Checked, good, refused, pick}
+use Rattle.records.specs.Records.{Content, Found, contentView}
+use Rattle.map_file.specs.File.{File, Result, accepted, refusedAt, countsOf, fileOf}
+use Rattle.records.specs.declared.beatmap.Settings.{Settings}
+use Rattle.records.specs.declared.hit_object.HitObjectKind.{HitObjectKind}
+use Rattle.records.specs.declared.hit_object.HitObjectKind.the-variants as kind
+use Rattle.records.specs.declared.record.Record.{Record}
+use Rattle.records.specs.declared.record.Record.the-variants as record·case
+use Rattle.map_file.specs.declared.file.Counts.{Counts}
+use Rattle.map_file.specs.declared.file.Reader.{Reader}
+use Rattle.map_file.specs.declared.file.Step.{Step}
+use Rattle.map_file.specs.declared.file.Step.the-variants as step
+use Rattle.map_file.specs.declared.file.Answer.{Answer}
+use Rattle.map_file.specs.declared.file.Answer.the-variants as answer
+
+abbrev pub kindBonusIn : HitObjectKind → ℕ
+kindBonusIn kind.Circle = 0
+kindBonusIn (kind.Slider s) = 0
+kindBonusIn (kind.Spinner s) = legacyOf (s .duration)
+
+abbrev pub bonusIn : Record → ℕ
+bonusIn (record·case.Header s) = 0
+bonusIn (record·case.Break b) = 0
+bonusIn (record·case.Object o) = kindBonusIn (o .kind)
+bonusIn (record·case.Play p) = 0
+
+-- the counts with one more record
+unfoldable pub countedIn : Counts → Record → Counts
+countedIn c (record·case.Header s) = record { last = 1; breaks = c .breaks; objects = c .objects; bonus = c .bonus }
+countedIn c (record·case.Break b) = record { last = 2; breaks = c .breaks + 1; objects = c .objects; bonus = c .bonus }
+countedIn c (record·case.Object o) = record { last = 3; breaks = c .breaks; objects = c .objects + 1; bonus = c .bonus + kindBonusIn (o .kind) }
+countedIn c (record·case.Play p) = record { last = 4; breaks = c .breaks; objects = c .objects; bonus = c .bonus }
+
+-- the limits leave room for one more record
+abbrev pub Fits : Counts → Record → Type 0
+Fits c (record·case.Header s) = Unit
+Fits c (record·case.Break b) = c .breaks < 128
+Fits c (record·case.Object o) = (c .objects < 8192) × (c .bonus + kindBonusIn (o .kind) ≤ 2147483647)
+Fits c (record·case.Play p) = Unit
+
+abbrev pub settingsAfter : Settings → Record → Settings
+settingsAfter s (record·case.Header own) = own
+settingsAfter s (record·case.Break b) = s
+settingsAfter s (record·case.Object o) = s
+settingsAfter s (record·case.Play p) = s
+
+-- the reader behind a record
+abbrev pub behind : Reader → Content × ℕ → Reader
+behind reader f = record {
+  at = reader .at + f .1;
+  settings = settingsAfter (reader .settings) (contentView (f .0));
+  counts = countedIn (reader .counts) (contentView (f .0));
+}
+
+-- what one record answers: the record and the reader behind it, or the refusal at the record's first byte
+abbrev pub stepOf : Reader → Found → Step
+stepOf reader (refused n) = step.Refused n (reader .at)
+stepOf reader (good f) = step.Next (contentView (f .0)) (behind reader f)
+
+unfoldable pub view : File → Reader
+view f = record { at = f .at; settings = f .map .settings; counts = countsOf f }
+
+-- that of a fresh file
+abbrev pub freshOf : Reader
+freshOf = record { at = 0; settings = record { hp = ofBits binary32 0; od = ofBits binary32 0; cs = ofBits binary32 0 }; counts = record { last = 0; breaks = 0; objects = 0; bonus = 0 } }
+
+abbrev pub answerOf : Result → Answer
+answerOf (accepted f) = answer.Map (view f)
+answerOf (refusedAt n at f) = answer.Refused n at
+
+-- "1: the program's input is above 65,536 bytes (the library has no such limit)"
+abbrev pub programAnswerOf : List ℕ → Answer
+programAnswerOf s = pick (ltb 65536 (length s)) (answer.Refused 1 0) (answerOf (fileOf s))

@@ -1,0 +1,287 @@
+// The whole map file: records in their order, counted, up to the end of the input or the first refusal.
+use numbers::words::word_at;
+use records::beatmap;
+use records::beatmap::BreakPeriod;
+use records::beatmap::Settings;
+use records::hit_object;
+use records::hit_object::HitObject;
+use records::hit_object::HitObjectKind;
+use records::play;
+use records::record::Read;
+use records::record::Record;
+ghost use mathlib.Core.Path.{_≡_};
+ghost use Prim.Native.Nat.{_+_, _≤_, _<_};
+ghost use lib.ListN.{length, drop};
+ghost use Rattle.records.specs.Records.{readOf};
+ghost use Rattle.map_file.specs.Order.{rankOf, inOrder, isFull, overBonus, bodyOf, recordOf};
+ghost use Rattle.map_file.specs.File.{fileOf};
+ghost use Rattle.map_file.specs.View.{bonusIn, countedIn, Fits, settingsAfter, stepOf, freshOf, answerOf, programAnswerOf};
+
+pub const MH: u64 = 0x484d;
+
+pub const BR: u64 = 0x5242;
+
+pub const PL: u64 = 0x4c50;
+
+// What the checks of the next record lean on: the last record's place in the order, the records so far and their legacy bonus.
+pub struct Counts {
+    pub last: u8,
+    pub breaks: u64,
+    pub objects: u64,
+    pub bonus: u64,
+}
+
+// Where a reader of a file stands.
+pub struct Reader {
+    pub at: usize,
+    pub settings: Settings,
+    pub counts: Counts,
+}
+
+pub enum Step {
+    Next(Record, Reader),
+    Refused { number: u8, offset: usize },
+}
+
+pub enum Answer {
+    Map(Reader),
+    Refused { number: u8, offset: usize },
+}
+
+impl Counts {
+    pub const MAX_BONUS: u64 = 2147483647;
+}
+
+impl Reader {
+    pub const MAX_PROGRAM_INPUT: usize = 65536;
+
+    pub fn new() -> Self
+        ensures { λ r. ⌜ r ≡ freshOf ⌝ }
+    {
+        Reader {
+            at: 0,
+            settings: Settings {
+                hp: 0.0,
+                od: 0.0,
+                cs: 0.0,
+            },
+            counts: Counts {
+                last: 0,
+                breaks: 0,
+                objects: 0,
+                bonus: 0,
+            },
+        }
+    }
+}
+
+// The place of a mark in the order of the records, and 0 for an unknown one.
+pub fn rank_of(mark: u64) -> u8
+    ensures { λ r. ⌜ r ≡ rankOf mark ⌝ }
+{
+    if mark == MH {
+        return 1;
+    }
+    if mark == BR {
+        return 2;
+    }
+    if mark == hit_object::CI {
+        return 3;
+    }
+    if mark == hit_object::SL {
+        return 3;
+    }
+    if mark == hit_object::SP {
+        return 3;
+    }
+    if mark == PL {
+        return 4;
+    }
+    0
+}
+
+fn in_order(last: u8, rank: u8) -> bool
+    ensures { λ r. ⌜ r ≡ inOrder last rank ⌝ }
+{
+    if rank <= 1 {
+        return rank == 1 && last == 0;
+    }
+    0 < last && last <= rank
+}
+
+fn is_full(c: Counts, rank: u8) -> bool
+    ensures { λ r. ⌜ r ≡ isFull c rank ⌝ }
+{
+    if rank == 2 {
+        return BreakPeriod::MAX_COUNT <= c.breaks;
+    }
+    if rank == 3 {
+        return HitObject::MAX_COUNT <= c.objects;
+    }
+    false
+}
+
+fn read_body(r: &[u8], mark: u64) -> Read
+    ensures { λ x. ⌜ x ≡ readOf (bodyOf (now (r .entry)) mark) ⌝ }
+{
+    if mark == MH {
+        return beatmap::read_header(r);
+    }
+    if mark == BR {
+        return beatmap::read_break(r);
+    }
+    if mark == PL {
+        return play::read_play(r);
+    }
+    hit_object::read_object(r, mark)
+}
+
+// The legacy bonus points of a record: a spinner's.
+fn bonus_of(item: Record) -> u64
+    ensures { λ r. ⌜ r ≡ bonusIn item ⌝ }
+{
+    match item {
+        Record::Object(o) => {
+            let kind = o.kind;
+            match kind {
+                HitObjectKind::Spinner(spinner) => spinner::bonus(spinner.duration).legacy.0,
+                HitObjectKind::Circle => 0,
+                HitObjectKind::Slider(_) => 0,
+            }
+        }
+        Record::Header(_) => 0,
+        Record::Break(_) => 0,
+        Record::Play(_) => 0,
+    }
+}
+
+fn is_over_bonus(c: Counts, bonus: u64) -> bool
+    ensures { λ r. ⌜ r ≡ overBonus c bonus ⌝ }
+{
+    if Counts::MAX_BONUS < bonus {
+        return true;
+    }
+    Counts::MAX_BONUS - bonus < c.bonus
+}
+
+// The record that the rest of a file starts with, by all checks of one record in their order.
+fn read_next(r: &[u8], c: Counts) -> Read
+    ensures { λ x. ⌜ x ≡ readOf (recordOf (now (r .entry)) c) ⌝ }
+{
+    if r.len() < 2 {
+        return Read::Refused(2);
+    }
+    let mark = word_at(r, 0, 2);
+    let rank = rank_of(mark);
+    if !in_order(c.last, rank) {
+        return Read::Refused(3);
+    }
+    if is_full(c, rank) {
+        return Read::Refused(6);
+    }
+    match read_body(r, mark) {
+        Read::Refused(number) => Read::Refused(number),
+        Read::Good(item, size) => {
+            if is_over_bonus(c, bonus_of(item)) {
+                return Read::Refused(7);
+            }
+            Read::Good(item, size)
+        }
+    }
+}
+
+// The counts with one more record.
+fn count(c: Counts, item: Record) -> Counts
+    requires { ⌜ Fits c item ⌝ }
+    ensures { λ r. ⌜ r ≡ countedIn c item ⌝ }
+{
+    match item {
+        Record::Header(_) => Counts { last: 1, ..c },
+        Record::Break(_) => Counts {
+            last: 2,
+            breaks: c.breaks + 1,
+            ..c
+        },
+        Record::Object(_) => Counts {
+            last: 3,
+            breaks: c.breaks,
+            objects: c.objects + 1,
+            bonus: c.bonus + bonus_of(item),
+        },
+        Record::Play(_) => Counts { last: 4, ..c },
+    }
+}
+
+// The settings after a record: the header's own.
+fn settings_after(settings: Settings, item: Record) -> Settings
+    ensures { λ r. ⌜ r ≡ settingsAfter settings item ⌝ }
+{
+    match item {
+        Record::Header(own) => own,
+        Record::Break(_) => settings,
+        Record::Object(_) => settings,
+        Record::Play(_) => settings,
+    }
+}
+
+// One record of a file, and where the reader stands behind it.
+pub fn read_record(s: &[u8], reader: Reader) -> Step
+    ensures { λ x. ⌜ x ≡ stepOf reader (recordOf (drop (reader .at) (now (s .entry))) (reader .counts)) ⌝ }
+{
+    let at = reader.at;
+    let counts = reader.counts;
+    if s.len() <= at {
+        return Step::Refused {
+            number: 2,
+            offset: at,
+        };
+    }
+    match read_next(&s[at..], counts) {
+        Read::Refused(number) => Step::Refused { number, offset: at },
+        Read::Good(item, size) => Step::Next(
+            item,
+            Reader {
+                at: at + size,
+                settings: settings_after(reader.settings, item),
+                counts: count(counts, item),
+            },
+        ),
+    }
+}
+
+// The map file: its sums, or the first refusal.
+pub fn read_map(s: &[u8]) -> Answer
+    ensures { λ r. ⌜ r ≡ answerOf (fileOf (now (s .entry))) ⌝ }
+{
+    let mut reader = Reader::new();
+    while reader.at < s.len() {
+        match read_record(s, reader) {
+            Step::Next(_, next) => {
+                reader = next;
+            }
+            Step::Refused { number, offset } => {
+                return Answer::Refused { number, offset };
+            }
+        }
+    }
+    if reader.counts.last == 0 {
+        return Answer::Refused {
+            number: 3,
+            offset: 0,
+        };
+    }
+    Answer::Map(reader)
+}
+
+// The program's input: as a map file, unless it is too long.
+pub fn read_program_input(s: &[u8]) -> Answer
+    ensures { λ r. ⌜ r ≡ programAnswerOf (now (s .entry)) ⌝ }
+{
+    if Reader::MAX_PROGRAM_INPUT < s.len() {
+        return Answer::Refused {
+            number: 1,
+            offset: 0,
+        };
+    }
+    read_map(s)
+}

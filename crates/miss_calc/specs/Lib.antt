@@ -1,0 +1,4 @@
+pub mod Counts
+pub mod Threshold
+pub mod Multiplier
+pub mod ScoreBased

@@ -1,0 +1,78 @@
+-- Document 01, "Records of the map file" and "What a caller gets": what a play is refused for on its map (9 and 10, and 8 of a play that is no
+-- record), and its score.
+use Prim.Native.Nat.{ℕ}
+use mathlib.Core.Bool.{Bool, true, false, not, _&&_, _||_}
+use lib.Dec.{eqb, ltb}
+use lib.Ieee.{binary64, ofBits, lt, le}
+use Rattle.records.specs.Refusals.{Checked, good, refused, _>>=_, _>>_, refuse_when_}
+use Rattle.records.specs.Play.{flagsBad}
+use Rattle.records.specs.declared.play.GameMods.{GameMods}
+use Rattle.records.specs.declared.play.LegacyTotalScore.{LegacyTotalScore}
+use Rattle.records.specs.declared.play.LegacyTotalScore.the-variants.{Absent, Present}
+use Rattle.records.specs.declared.play.OsuHitResults.{OsuHitResults}
+use Rattle.records.specs.declared.play.OsuScoreOrigin.{OsuScoreOrigin}
+use Rattle.records.specs.declared.play.Play.{Play}
+use Rattle.simulator.specs.declared.attributes.OsuDifficultyAttributes.{OsuDifficultyAttributes}
+use Rattle.simulator.specs.declared.attributes.ScoreAttributes.{ScoreAttributes}
+use Rattle.miss_calc.specs.Counts.{totalHits}
+use Rattle.estimates.specs.Accuracy.{largeTicks}
+use Rattle.estimates.specs.ComboBased.{isClassicOf}
+use Rattle.estimates.specs.Effective.{estimatesOf}
+use Rattle.play_score.specs.declared.PlayScore.{PlayScore}
+use Rattle.play_score.specs.declared.Scored.{Scored}
+use Rattle.play_score.specs.declared.Scored.the-variants as scored
+use Rattle.play_score.specs.declared.GivenPlay.{GivenPlay}
+use Rattle.play_score.specs.declared.GivenPlay.the-variants as given
+
+-- "8: a play field is out of range": "higher bits are 0"; "clock rate f64 above 0 and at most 100"
+unfoldable pub modsBad : GameMods → Bool
+modsBad m = flagsBad (m .flags) || not (lt (ofBits binary64 0) (m .«clock_rate») && le (m .«clock_rate») (ofBits binary64 0x4059000000000000))
+
+-- "or, for origin 1 only, slider end hits exceed sliders or large tick hits exceed ticks plus repeats"
+unfoldable pub hitsExceed : OsuHitResults → OsuScoreOrigin → OsuDifficultyAttributes → Bool
+hitsExceed h o a = not (isClassicOf o) && (ltb (a .«n_sliders») (h .«slider_end_hits») || ltb (largeTicks a) (h .«large_tick_hits»))
+
+-- "A play exceeds its map if its four judgements sum to more than the passed objects .., its max combo is above theirs, or .."
+unfoldable pub exceeds : Play → ScoreAttributes → Bool
+exceeds p a =
+    ltb (a .«object_count») (totalHits (p .hitresults))
+    || ltb (a .difficulty .«max_combo») (p .«max_combo»)
+    || hitsExceed (p .hitresults) (p .origin) (a .difficulty)
+
+abbrev pub isPresent : LegacyTotalScore → Bool
+isPresent Absent = false
+isPresent (Present n) = true
+
+-- "A play with origin 1 or without a score has no score-based estimate. If the judgements sum to 0, .. score-based is absent."
+unfoldable pub isDue : Play → Bool
+isDue p = isClassicOf (p .origin) && isPresent (p .«legacy_total_score») && not (eqb (totalHits (p .hitresults)) 0)
+
+-- "10: a score-based estimate is due and the passed objects' max combo is above 46,341"
+unfoldable pub overCombo : Play → OsuDifficultyAttributes → Bool
+overCombo p a = isDue p && ltb 46341 (a .«max_combo»)
+
+-- "9: a play exceeds its map"; "a play then 9 and 10"
+unfoldable pub playScore : Play → ScoreAttributes → Checked PlayScore
+playScore p a = do
+  refuse 9 when exceeds p a
+  refuse 10 when overCombo p (a .difficulty)
+  good (record { attributes = a; estimates = estimatesOf p (a .difficulty) })
+
+-- the answer of a play on attributes: the values, or the number
+abbrev pub scoredOf : Checked PlayScore → Scored
+scoredOf (refused n) = scored.Refused n
+scoredOf (good s) = scored.Score s
+
+-- a play that is given beside the file has no offset
+abbrev pub givenOf : Scored → GivenPlay
+givenOf (scored.Refused n) = given.Refused n 0
+givenOf (scored.Score s) = given.Score s
+
+abbrev pub givenAnswer : Checked PlayScore → GivenPlay
+givenAnswer x = givenOf (scoredOf x)
+
+-- "The checks of one record run: .. fixed fields in layout order (4 or 8 ..) ..; a play then 9 and 10"
+unfoldable pub givenScore : Play → ScoreAttributes → Checked PlayScore
+givenScore p a = do
+  refuse 8 when modsBad (p .mods)
+  playScore p a

@@ -1,0 +1,156 @@
+// A play on the passed objects of its map: what it is refused for, and its score.
+use estimates::calculator::Estimates;
+use estimates::calculator::calculate;
+use estimates::calculator::is_classic;
+use estimates::score_state::large_ticks;
+use miss_calc::counts::total_hits;
+use records::play::GameMods;
+use records::play::LegacyTotalScore;
+use records::play::OsuHitResults;
+use records::play::OsuScoreOrigin;
+use records::play::Play;
+use records::play::has_unknown_flags;
+use simulator::attributes::OsuDifficultyAttributes;
+use simulator::attributes::ScoreAttributes;
+ghost use mathlib.Core.Path.{_≡_};
+ghost use Rattle.play_score.specs.PlayRules.{modsBad, hitsExceed, exceeds, isPresent, isDue, overCombo, playScore, scoredOf, givenOf, givenAnswer, givenScore};
+
+// The attributes of the passed objects, and what the play is told of its misses.
+pub struct PlayScore {
+    pub attributes: ScoreAttributes,
+    pub estimates: Estimates,
+}
+
+pub enum Scored {
+    Score(PlayScore),
+    Refused(u8),
+}
+
+// The answer for a play that is given beside its map.
+pub enum GivenPlay {
+    Score(PlayScore),
+    Refused { number: u8, offset: usize },
+}
+
+impl PlayScore {
+    // The Rust's product (max combo - 2) * max combo has 32 bits up to this combo.
+    pub const MAX_COMBO: u32 = 46341;
+}
+
+// Flags and clock rate are the only fields of a play struct that can be out of range.
+pub fn has_bad_mods(mods: GameMods) -> bool
+    ensures { λ r. ⌜ r ≡ modsBad mods ⌝ }
+{
+    if has_unknown_flags(mods.flags) {
+        return true;
+    }
+    if mods.clock_rate > 0.0 {
+        if mods.clock_rate <= 100.0 {
+            return false;
+        }
+    }
+    true
+}
+
+// Origin 1 counts slider ends and large ticks; the others' hits are capped by the accuracy.
+fn hits_exceed(hits: OsuHitResults, origin: OsuScoreOrigin, attrs: OsuDifficultyAttributes) -> bool
+    ensures { λ r. ⌜ r ≡ hitsExceed hits origin attrs ⌝ }
+{
+    if is_classic(origin) {
+        return false;
+    }
+    if attrs.n_sliders < hits.slider_end_hits {
+        return true;
+    }
+    large_ticks(attrs) < hits.large_tick_hits as u64
+}
+
+fn exceeds_map(play: Play, a: ScoreAttributes) -> bool
+    ensures { λ r. ⌜ r ≡ exceeds play a ⌝ }
+{
+    let hits = play.hitresults;
+    let origin = play.origin;
+    let difficulty = a.difficulty;
+    if a.object_count < total_hits(hits) {
+        return true;
+    }
+    if difficulty.max_combo < play.max_combo {
+        return true;
+    }
+    hits_exceed(hits, origin, difficulty)
+}
+
+fn is_present(score: LegacyTotalScore) -> bool
+    ensures { λ r. ⌜ r ≡ isPresent score ⌝ }
+{
+    match score {
+        LegacyTotalScore::Absent => false,
+        LegacyTotalScore::Present(_) => true,
+    }
+}
+
+// Whether the play gets a score-based estimate.
+fn is_estimate_due(play: Play) -> bool
+    ensures { λ r. ⌜ r ≡ isDue play ⌝ }
+{
+    let hits = play.hitresults;
+    let origin = play.origin;
+    let score = play.legacy_total_score;
+    if !is_classic(origin) {
+        return false;
+    }
+    if !is_present(score) {
+        return false;
+    }
+    total_hits(hits) != 0
+}
+
+fn is_over_combo(play: Play, attrs: OsuDifficultyAttributes) -> bool
+    ensures { λ r. ⌜ r ≡ overCombo play attrs ⌝ }
+{
+    if !is_estimate_due(play) {
+        return false;
+    }
+    PlayScore::MAX_COMBO < attrs.max_combo
+}
+
+// The score of a play on the objects that it passed.
+pub fn score_on(play: Play, a: ScoreAttributes) -> Scored
+    ensures { λ r. ⌜ r ≡ scoredOf (playScore play a) ⌝ }
+{
+    let difficulty = a.difficulty;
+    if exceeds_map(play, a) {
+        return Scored::Refused(9);
+    }
+    if is_over_combo(play, difficulty) {
+        return Scored::Refused(10);
+    }
+    Scored::Score(PlayScore {
+        attributes: a,
+        estimates: calculate(play, difficulty),
+    })
+}
+
+// A play that is given beside its map is no record of the file: its refusals are at 0.
+pub fn given(scored: Scored) -> GivenPlay
+    ensures { λ r. ⌜ r ≡ givenOf scored ⌝ }
+{
+    match scored {
+        Scored::Refused(number) => GivenPlay::Refused { number, offset: 0 },
+        Scored::Score(score) => GivenPlay::Score(score),
+    }
+}
+
+// The score of a given play: 8, then 9 and 10.
+pub fn score_given(play: Play, a: ScoreAttributes) -> GivenPlay
+    ensures { λ r. ⌜ r ≡ givenAnswer (givenScore play a) ⌝ }
+{
+    let mods = play.mods;
+    if has_bad_mods(mods) {
+        return GivenPlay::Refused {
+            number: 8,
+            offset: 0,
+        };
+    }
+    given(score_on(play, a))
+}

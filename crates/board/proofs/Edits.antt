@@ -8,6 +8,7 @@ use borrow.Author.Tests.{lt-leb, le-leb}
 use lib.Dec.{leb, ltb}
 use lib.Ieee.{Float}
 use lib.ListN.{length}
+use Rattle.records.specs.Limits.{maxBonus}
 use Rattle.numbers.specs.Words.{wordAt}
 use Rattle.records.specs.Refusals.{Checked, good, refused, _>>=_, _>>_, refuse_when_}
 use Rattle.records.specs.Objects.{Object, Kind, kindView, objectView, bonus, kindBonus}
@@ -71,7 +72,7 @@ not-alone r n e = go (objectIn r) e
     go (good o) e = never (cc)
 
 -- its own entry
-bonus-low : (o : Object) → ObjectWithin o → bonus (o ∷ []) ≤ 2147483647
+bonus-low : (o : Object) → ObjectWithin o → bonus (o ∷ []) ≤ maxBonus
 unfolding bonus
 bonus-low o w = let low = object-bonus (o .kind) (w .kind) in omega (arith, low)
 

@@ -1,5 +1,5 @@
 -- The steps of a read: each refusal in its turn, then the play on what the search found.
-use Prim.Native.Nat.{ℕ, _%_, _≤_, _<_, min}
+use Prim.Native.Nat.{ℕ, _%_, _≤_, _<_, min, _*_}
 use mathlib.Core.Path.{_≡_, refl, sym, ap, _∙_}
 use mathlib.Core.Bool.{Bool, true, false, not, _&&_, _||_}
 use mathlib.Core.List.{List}
@@ -7,6 +7,7 @@ use borrow.Author.Tests.{lt-ltb, le-ltb}
 use lib.Dec.{eqb}
 use lib.Ieee.{Float, binary32, ofBits, le}
 use lib.ListN.{length}
+use Rattle.records.specs.Limits.{maxBreaks}
 use Rattle.records.specs.Refusals.{Checked, good, refused, _>>=_, _>>_, refuse_when_}
 use Rattle.records.specs.declared.beatmap.Settings.{Settings}
 use Rattle.records.specs.declared.play.Play.{Play}
@@ -25,7 +26,6 @@ use Rattle.board.specs.declared.search.Found.{Found}
 use Rattle.board.proofs.Binds.{bind-good, bind-refused, then-good, then-refused, when-true, when-false}
 
 setting-in : (x : Float) → settingBad x ≡ false → SettingIn x
-unfolding settingBad
 setting-in x e = both (le (ofBits binary32 0) x) (le x (ofBits binary32 0x41400000)) e
   where
     both : (a b : Bool) → not (a && b) ≡ false → (a ≡ true) × (b ≡ true)
@@ -53,23 +53,23 @@ module _ (b : List ℕ) (ts : List Float) (n : ℕ) (s : Settings) (br : List Fl
 
   pub many-breaks : 256 < length br → readOf b ts n s br p ≡ refused 6
   unfolding readOf
-  many-breaks h = when-true 6 _ _ (lt-ltb 256 (length br) h)
+  many-breaks h = when-true 6 _ _ (lt-ltb (2 * maxBreaks) (length br) h)
 
-  module _ (few : length br ≤ 256) where
+  module _ (few : length br ≤ 2 * maxBreaks) where
     pub no-room : (k : ℕ) → roomFor b ts n ≡ refused k → readOf b ts n s br p ≡ refused k
     unfolding readOf
-    no-room k e = when-false 6 _ _ (le-ltb 256 (length br) few) ∙ then-refused (roomFor b ts n) _ k e
+    no-room k e = when-false 6 _ _ (le-ltb (2 * maxBreaks) (length br) few) ∙ then-refused (roomFor b ts n) _ k e
 
     module _ (room : roomFor b ts n ≡ good tt) where
       pub bad-arguments : argumentsBad s br ≡ true → readOf b ts n s br p ≡ refused 4
       unfolding readOf
-      bad-arguments h = when-false 6 _ _ (le-ltb 256 (length br) few) ∙ then-good (roomFor b ts n) _ tt room ∙ when-true 4 (argumentsBad s br) _ h
+      bad-arguments h = when-false 6 _ _ (le-ltb (2 * maxBreaks) (length br) few) ∙ then-good (roomFor b ts n) _ tt room ∙ when-true 4 (argumentsBad s br) _ h
 
       module _ (arguments : argumentsBad s br ≡ false) where
         pub bad-mods : modsBad (p .mods) ≡ true → readOf b ts n s br p ≡ refused 8
         unfolding readOf
         bad-mods h =
-            when-false 6 _ _ (le-ltb 256 (length br) few)
+            when-false 6 _ _ (le-ltb (2 * maxBreaks) (length br) few)
             ∙ then-good (roomFor b ts n) _ tt room
             ∙ when-false 4 (argumentsBad s br) _ arguments
             ∙ when-true 8 (modsBad (p .mods)) _ h
@@ -77,7 +77,7 @@ module _ (b : List ℕ) (ts : List Float) (n : ℕ) (s : Settings) (br : List Fl
         pub reads : modsBad (p .mods) ≡ false → readOf b ts n s br p ≡ scoreFrom b ts n s br p
         unfolding readOf
         reads h =
-            when-false 6 _ _ (le-ltb 256 (length br) few)
+            when-false 6 _ _ (le-ltb (2 * maxBreaks) (length br) few)
             ∙ then-good (roomFor b ts n) _ tt room
             ∙ when-false 4 (argumentsBad s br) _ arguments
             ∙ when-false 8 (modsBad (p .mods)) _ h

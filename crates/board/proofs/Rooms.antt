@@ -7,6 +7,8 @@ use borrow.Author.Tests.{lt-ltb, le-ltb, ltb-false}
 use lib.Dec.{ltb}
 use lib.Ieee.{Float}
 use lib.ListN.{length}
+use Rattle.records.specs.Limits.{maxObjects}
+use Rattle.entries.specs.Entry.{placeWords}
 use Rattle.records.specs.Refusals.{Checked, good, refused, _>>_, refuse_when_}
 use Rattle.records.proofs.Laws.{never}
 use Rattle.tree.specs.Size.{levelsOf, capOf}
@@ -16,16 +18,16 @@ use Rattle.board.specs.declared.place.Room.{Room}
 use Rattle.board.specs.declared.place.Room.the-variants as room
 
 module _ (b : List ℕ) (ts : List Float) (n : ℕ) where
-  pub many : 8192 < n → roomFor b ts n ≡ refused 6
+  pub many : maxObjects < n → roomFor b ts n ≡ refused 6
   unfolding roomFor _>>_ refuse_when_
   many h = simp (lt-ltb _ _ h)
 
-  module _ (few : n ≤ 8192) where
-    pub few-words : length b < 26 * capOf n → roomFor b ts n ≡ refused 11
+  module _ (few : n ≤ maxObjects) where
+    pub few-words : length b < placeWords * capOf n → roomFor b ts n ≡ refused 11
     unfolding roomFor _>>_ refuse_when_
     few-words h = simp (le-ltb _ _ few, lt-ltb _ _ h)
 
-    module _ (words : 26 * capOf n ≤ length b) where
+    module _ (words : placeWords * capOf n ≤ length b) where
       pub few-numbers : length ts < n → roomFor b ts n ≡ refused 11
       unfolding roomFor _>>_ refuse_when_
       few-numbers h = simp (le-ltb _ _ few, le-ltb _ _ words, lt-ltb _ _ h)
@@ -36,15 +38,15 @@ module _ (b : List ℕ) (ts : List Float) (n : ℕ) where
 
   -- where nothing is refused there is room
   pub record Measured : Type 0 where
-    pub few : n ≤ 8192
-    pub words : 26 * capOf n ≤ length b
+    pub few : n ≤ maxObjects
+    pub words : placeWords * capOf n ≤ length b
     pub numbers : n ≤ length ts
 
   pub measured : (u : Unit {0}) → roomFor b ts n ≡ good u → Measured
   unfolding roomFor _>>_ refuse_when_
-  measured u e = go (ltb 8192 n) refl (ltb (length b) (26 * capOf n)) refl (ltb (length ts) n) refl e
+  measured u e = go (ltb maxObjects n) refl (ltb (length b) (placeWords * capOf n)) refl (ltb (length ts) n) refl e
     where
-      go : (x : Bool) → ltb 8192 n ≡ x → (y : Bool) → ltb (length b) (26 * capOf n) ≡ y → (z : Bool) → ltb (length ts) n ≡ z
+      go : (x : Bool) → ltb maxObjects n ≡ x → (y : Bool) → ltb (length b) (placeWords * capOf n) ≡ y → (z : Bool) → ltb (length ts) n ≡ z
           → ((refuse 6 when x) >> ((refuse 11 when y) >> (refuse 11 when z))) ≡ good u → Measured
       go true p y q z r e = never (cc)
       go false p true q z r e = never (cc)

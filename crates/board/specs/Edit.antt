@@ -5,8 +5,9 @@ use mathlib.Core.List.{List, [], _∷_}
 use lib.Dec.{eqb, leb, ltb}
 use lib.Ieee.{Float}
 use lib.ListN.{length}
+use Rattle.records.specs.Limits.{markSize}
 use Rattle.numbers.specs.Words.{wordAt}
-use Rattle.records.specs.Refusals.{Checked, good, refused, _>>=_, _>>_, refuse_when_}
+use Rattle.records.specs.Refusals.{Checked, good, refused, _>>=_, _>>_, refuse_when_, CUT, MARK, PLACE}
 use Rattle.records.specs.Fields.{cut}
 use Rattle.records.specs.Objects.{Object, objectView}
 use Rattle.records.specs.Records.{Content, header, break, object, play, objectOf}
@@ -20,20 +21,20 @@ use Rattle.board.specs.declared.edit.Alone.the-variants as alone
 
 -- the record of an object holds no other content
 abbrev pub objectOnly : Content → Checked Object
-objectOnly (header s) = refused 3
-objectOnly (break b) = refused 3
+objectOnly (header s) = refused MARK
+objectOnly (break b) = refused MARK
 objectOnly (object o) = good o
-objectOnly (play p) = refused 3
+objectOnly (play p) = refused MARK
 
 -- an edit's record: "the input is empty" is 3, then "mark cut (2), mark (3), .. fixed part cut (2), fixed fields .., nested list cut (2), nested
 -- list (5)"; "in an edit also, checked last, if bytes follow the object's record"
 unfoldable pub objectIn : List ℕ → Checked Object
 objectIn r = do
-  refuse 3 when eqb (length r) 0
-  refuse 2 when cut r 2
+  refuse MARK when eqb (length r) 0
+  refuse CUT when cut r markSize
   found ← objectOf r (wordAt r 0 2)
   o ← objectOnly (found .0)
-  refuse 3 when ltb (found .1) (length r)
+  refuse MARK when ltb (found .1) (length r)
   good o
 
 -- what the code keeps of it
@@ -42,15 +43,15 @@ aloneOf (refused n) = alone.Refused n
 aloneOf (good o) = alone.Is (objectView o)
 
 abbrev pub onlyOf : Record → Alone
-onlyOf (record·case.Header s) = alone.Refused 3
-onlyOf (record·case.Break b) = alone.Refused 3
+onlyOf (record·case.Header s) = alone.Refused MARK
+onlyOf (record·case.Break b) = alone.Refused MARK
 onlyOf (record·case.Object o) = alone.Is o
-onlyOf (record·case.Play p) = alone.Refused 3
+onlyOf (record·case.Play p) = alone.Refused MARK
 
 -- "12: an edited place is not below the object count"
 unfoldable pub editOf : List ℕ → List Float → ℕ → ℕ → List ℕ → Checked (List ℕ × List Float)
 editOf b ts n place r = do
   roomFor b ts n
-  refuse 12 when leb n place
+  refuse PLACE when leb n place
   o ← objectIn r
   putAt (record { levels = levelsOf n; cap = capOf n }) place (entryOf (o ∷ [])) (o .start) b ts

@@ -5,7 +5,9 @@ use mathlib.Core.List.{List}
 use lib.Dec.{ltb}
 use lib.Ieee.{Float}
 use lib.ListN.{length, set}
-use Rattle.records.specs.Refusals.{Checked, good, refused, _>>=_, _>>_, refuse_when_}
+use Rattle.records.specs.Limits.{maxObjects}
+use Rattle.entries.specs.Entry.{placeWords}
+use Rattle.records.specs.Refusals.{Checked, good, refused, _>>=_, _>>_, refuse_when_, COUNT, ROOM}
 use Rattle.entries.specs.declared.entry.Entry.{Entry}
 use Rattle.tree.specs.Size.{levelsOf, capOf}
 use Rattle.tree.specs.Put.{climbed}
@@ -20,9 +22,9 @@ use Rattle.board.specs.declared.place.Written.the-variants as written
 -- "6: .. an 8,193rd object"; "11: the board has fewer than 26 × C words, or the start table fewer numbers than objects"
 unfoldable pub roomFor : List ℕ → List Float → ℕ → Checked (Unit {0})
 roomFor b ts n = do
-  refuse 6 when ltb 8192 n
-  refuse 11 when ltb (length b) (26 * capOf n)
-  refuse 11 when ltb (length ts) n
+  refuse COUNT when ltb maxObjects n
+  refuse ROOM when ltb (length b) (placeWords * capOf n)
+  refuse ROOM when ltb (length ts) n
 
 abbrev pub roomOf : ℕ → Checked (Unit {0}) → Room
 roomOf n (refused k) = room.Refused k
@@ -32,8 +34,8 @@ roomOf n (good _) = room.Is (record { levels = levelsOf n; cap = capOf n })
 pub record Holds (size : Size) (n : ℕ) (b : List ℕ) (ts : List Float) : Type 0 where
   pub levels : size .levels ≡ levelsOf n
   pub cap : size .cap ≡ capOf n
-  pub few : n ≤ 8192
-  pub words : 26 * capOf n ≤ length b
+  pub few : n ≤ maxObjects
+  pub words : placeWords * capOf n ≤ length b
   pub numbers : n ≤ length ts
 
 -- both slices, with an entry and what follows from it above, and a start

@@ -1,13 +1,15 @@
 -- Document 01, "What a caller gets": a read checks 6 and 11, then "its settings and breaks, starts and ends in turn, an odd count 4, then 8", then
 -- "13 and 7 entry by entry as read, and .. at last 9 and 10".
-use Prim.Native.Nat.{ℕ, _%_, min}
+use Prim.Native.Nat.{ℕ, _%_, min, _*_}
 use mathlib.Core.Bool.{Bool, true, false, not, _&&_, _||_}
 use mathlib.Core.List.{List, [], _∷_}
 use lib.Dec.{eqb, ltb}
 use lib.IntN.{ℤ, pos}
 use lib.Ieee.{Float, binary32, ofBits, le}
 use lib.ListN.{length}
-use Rattle.records.specs.Refusals.{Checked, good, refused, _>>=_, _>>_, refuse_when_, pick}
+use Rattle.records.specs.Fields.{isSetting}
+use Rattle.records.specs.Limits.{maxBreaks}
+use Rattle.records.specs.Refusals.{Checked, good, refused, _>>=_, _>>_, refuse_when_, pick, RANGE, COUNT, PLAY-FIELD}
 use Rattle.records.specs.declared.beatmap.Settings.{Settings}
 use Rattle.records.specs.declared.play.Play.{Play}
 use Rattle.ruleset.specs.Drain.{drainOf, breaksLength, breaksOf}
@@ -24,8 +26,8 @@ use Rattle.board.specs.declared.search.Starts.{Starts}
 use Rattle.board.specs.declared.search.Found.{Found}
 
 -- "three floats of 32 bits, each from 0 to 12"
-unfoldable pub settingBad : Float → Bool
-settingBad x = not (le (ofBits binary32 0) x && le x (ofBits binary32 0x41400000))
+abbrev pub settingBad : Float → Bool
+settingBad x = not (isSetting x)
 
 unfoldable pub settingsBad : Settings → Bool
 settingsBad s = settingBad (s .hp) || settingBad (s .od) || settingBad (s .cs)
@@ -58,8 +60,8 @@ scoreFrom b ts n s br p = do
 -- "6: a 129th break, an 8,193rd object"; "8: a play field is out of range"
 unfoldable pub readOf : List ℕ → List Float → ℕ → Settings → List Float → Play → Checked PlayScore
 readOf b ts n s br p = do
-  refuse 6 when ltb 256 (length br)
+  refuse COUNT when ltb (2 * maxBreaks) (length br)
   roomFor b ts n
-  refuse 4 when argumentsBad s br
-  refuse 8 when modsBad (p .mods)
+  refuse RANGE when argumentsBad s br
+  refuse PLAY-FIELD when modsBad (p .mods)
   scoreFrom b ts n s br p

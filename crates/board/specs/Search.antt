@@ -7,8 +7,8 @@ use lib.Dec.{eqb}
 use lib.Ieee.{Float, nan, neg, le}
 use lib.ListN.{getD}
 use Rattle.numbers.specs.Floats.{whole}
-use Rattle.records.specs.Refusals.{Checked, good, refused, _>>=_, _>>_, refuse_when_, pick}
-use Rattle.records.specs.Fields.{timeLimit}
+use Rattle.records.specs.Refusals.{Checked, good, refused, _>>=_, _>>_, refuse_when_, pick, BOARD}
+use Rattle.records.specs.Fields.{isTime}
 use Rattle.entries.specs.Entry.{none}
 use Rattle.entries.specs.Scores.{unsound}
 use Rattle.tree.specs.Size.{levelsOf}
@@ -21,15 +21,15 @@ use Rattle.board.specs.declared.search.Search.{Search}
 use Rattle.board.specs.declared.search.Search.the-variants as search
 
 -- "Times are milliseconds from -8,000,000 to 8,000,000"
-unfoldable pub timeBad : Float → Bool
-timeBad x = not (le (neg timeLimit) x && le x timeLimit)
+abbrev pub timeBad : Float → Bool
+timeBad x = not (isTime x)
 
 -- the starts of the first of n places and of the last of p: "Passed 0 takes the first object as last". 13 if one is outside its limits. With no
 -- object none is read
 unfoldable pub startsIn : List Float → ℕ → ℕ → Checked Starts
 startsIn ts n p = pick (eqb n 0) (good (record { first = whole 0; last = whole 0 })) do
-  refuse 13 when timeBad (getD ts 0 nan)
-  refuse 13 when timeBad (getD ts (p - 1) nan)
+  refuse BOARD when timeBad (getD ts 0 nan)
+  refuse BOARD when timeBad (getD ts (p - 1) nan)
   good (record { first = getD ts 0 nan; last = getD ts (p - 1) nan })
 
 -- what a read of the first p of n places finds: 13 and 7 entry by entry, then the starts, then k and s of all of them
@@ -37,7 +37,7 @@ unfoldable pub foundOf : List ℕ → List Float → ℕ → ℕ → Checked Fou
 foundOf b ts n p = do
   sum ← walked (levelsOf n + 1) b 1 p none
   ends ← startsIn ts n p
-  refuse 13 when unsound sum
+  refuse BOARD when unsound sum
   good (record { sum = sum; starts = ends })
 
 -- ---- the answers, case by case

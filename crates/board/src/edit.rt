@@ -9,6 +9,7 @@ use records::hit_object::HitObject;
 use records::hit_object::read_object;
 use records::record::Read;
 use records::record::Record;
+use records::refusal;
 use tree::Put;
 ghost use mathlib.Core.Path.{_≡_};
 ghost use Rattle.board.specs.Place.{writtenOf, writtenLeft};
@@ -25,9 +26,9 @@ fn object_only(item: Record) -> Alone
 {
     match item {
         Record::Object(object) => Alone::Is(object),
-        Record::Header(_) => Alone::Refused(3),
-        Record::Break(_) => Alone::Refused(3),
-        Record::Play(_) => Alone::Refused(3),
+        Record::Header(_) => Alone::Refused(refusal::MARK),
+        Record::Break(_) => Alone::Refused(refusal::MARK),
+        Record::Play(_) => Alone::Refused(refusal::MARK),
     }
 }
 
@@ -36,16 +37,16 @@ pub fn read_alone(r: &[u8]) -> Alone
     ensures { λ x. ⌜ x ≡ aloneOf (objectIn (now (r .entry))) ⌝ }
 {
     if r.len() == 0 {
-        return Alone::Refused(3);
+        return Alone::Refused(refusal::MARK);
     }
     if r.len() < 2 {
-        return Alone::Refused(2);
+        return Alone::Refused(refusal::CUT);
     }
     match read_object(r, word_at(r, 0, 2)) {
         Read::Refused(number) => Alone::Refused(number),
         Read::Good(item, size) => {
             if size < r.len() {
-                return Alone::Refused(3);
+                return Alone::Refused(refusal::MARK);
             }
             object_only(item)
         }
@@ -76,7 +77,7 @@ pub fn edit(
         Room::Is(size) => {
             if count <= place {
                 return Written::Refused {
-                    number: 12,
+                    number: refusal::PLACE,
                     offset: 0,
                 };
             }

@@ -1,6 +1,7 @@
 // Room for a map's board and start table, and an entry and a start put at a place of them.
 use entries::entry::Entry;
 use records::hit_object::HitObject;
+use records::refusal;
 use tree::Put;
 use tree::Size;
 use tree::climb;
@@ -9,7 +10,7 @@ ghost use mathlib.Core.Path.{_≡_};
 ghost use mathlib.Core.Bool.{true};
 ghost use Prim.Native.Nat.{_*_, _≤_, _<_};
 ghost use lib.ListN.{length};
-ghost use Rattle.entries.specs.Entry.{inLimits};
+ghost use Rattle.entries.specs.Entry.{inLimits, placeWords};
 ghost use Rattle.board.specs.Place.{roomFor, roomOf, putAt, putLeft};
 
 // What a build or an edit answers.
@@ -24,21 +25,18 @@ pub enum Room {
     Refused(u8),
 }
 
-// The words of an entry and of the one beside it, for each place of a board.
-const PLACE_WORDS: usize = 2 * Entry::WORDS;
-
 pub fn room_for(board: &[u64], starts: &[f64], count: usize) -> Room
     ensures { λ r. ⌜ r ≡ roomOf count (roomFor (now (board .entry)) (now (starts .entry)) count) ⌝ }
 {
     if (HitObject::MAX_COUNT as usize) < count {
-        return Room::Refused(6);
+        return Room::Refused(refusal::COUNT);
     }
     let size = size_of(count);
-    if board.len() < PLACE_WORDS * size.cap {
-        return Room::Refused(11);
+    if board.len() < Entry::PLACE_WORDS * size.cap {
+        return Room::Refused(refusal::ROOM);
     }
     if starts.len() < count {
-        return Room::Refused(11);
+        return Room::Refused(refusal::ROOM);
     }
     Room::Is(size)
 }
@@ -52,7 +50,7 @@ pub fn put_at(
     entry: Entry,
     start: f64,
 ) -> Put
-    requires { ⌜ (place < size .cap) × (26 * size .cap ≤ length (now board)) × (place < length (now starts)) × (inLimits entry ≡ true) ⌝ }
+    requires { ⌜ (place < size .cap) × (placeWords * size .cap ≤ length (now board)) × (place < length (now starts)) × (inLimits entry ≡ true) ⌝ }
     ensures { λ r. ⌜ (r, now (board .exit), now (starts .exit)) ≡ putLeft (putAt size place entry start (now (board .entry)) (now (starts .entry))) (now (board .entry)) (now (starts .entry)) ⌝ }
 {
     match climb(board, size.levels, size.cap + place, entry) {

@@ -5,17 +5,19 @@ use crate::search::Found;
 use crate::search::Search;
 use crate::search::Starts;
 use crate::search::find;
-use crate::search::is_bad_time;
 use entries::values::counts_in;
 use entries::values::state_in;
-use miss_calc::counts::least;
+use numbers::naturals::least;
 use play_score::GivenPlay;
 use play_score::given;
 use play_score::has_bad_mods;
 use play_score::score_on;
 use records::beatmap::BreakPeriod;
 use records::beatmap::Settings;
+use records::fields::is_setting;
+use records::fields::is_time;
 use records::play::Play;
+use records::refusal;
 use ruleset::score_multiplier::break_len;
 use ruleset::score_multiplier::drain_len;
 use ruleset::score_multiplier::score_multiplier;
@@ -24,40 +26,30 @@ use simulator::attributes::score_attributes;
 use tree::Size;
 ghost use mathlib.Core.Path.{_≡_};
 ghost use mathlib.Core.Bool.{true, false};
-ghost use Prim.Native.Nat.{_≤_, _<_, _^_};
+ghost use Prim.Native.Nat.{_≤_, _<_, _^_, _*_};
 ghost use lib.ListN.{length};
 ghost use lib.Signed.{mag};
+ghost use Rattle.records.specs.Limits.{maxBreaks};
 ghost use Rattle.entries.specs.Entry.{inLimits};
 ghost use Rattle.entries.specs.Scores.{unsound};
 ghost use Rattle.ruleset.specs.Stars.{SettingsIn};
 ghost use Rattle.play_score.specs.PlayRules.{givenAnswer};
 ghost use Rattle.board.specs.Place.{Holds};
-ghost use Rattle.board.specs.Read.{settingBad, settingsBad, timesBad, argumentsBad, drainFrom, attributesFrom, scoreFrom, readOf};
+ghost use Rattle.board.specs.Read.{settingsBad, timesBad, argumentsBad, drainFrom, attributesFrom, scoreFrom, readOf};
 
 // A start and an end for each break.
 const MAX_BREAK_TIMES: usize = 2 * BreakPeriod::MAX_COUNT as usize;
 
-fn is_bad_setting(x: f32) -> bool
-    ensures { λ r. ⌜ r ≡ settingBad x ⌝ }
-{
-    if x >= 0.0 {
-        if x <= 12.0 {
-            return false;
-        }
-    }
-    true
-}
-
 fn has_bad_settings(settings: Settings) -> bool
     ensures { λ r. ⌜ r ≡ settingsBad settings ⌝ }
 {
-    if is_bad_setting(settings.hp) {
+    if !is_setting(settings.hp) {
         return true;
     }
-    if is_bad_setting(settings.od) {
+    if !is_setting(settings.od) {
         return true;
     }
-    is_bad_setting(settings.cs)
+    !is_setting(settings.cs)
 }
 
 fn has_bad_times(times: &[f64]) -> bool
@@ -65,7 +57,7 @@ fn has_bad_times(times: &[f64]) -> bool
 {
     let mut i = 0;
     while i < times.len() {
-        if is_bad_time(times[i]) {
+        if !is_time(times[i]) {
             return true;
         }
         i += 1;
@@ -87,7 +79,7 @@ fn has_bad_arguments(settings: Settings, breaks: &[f64]) -> bool
 }
 
 fn drain_from(starts: Starts, breaks: &[f64], count: usize) -> i64
-    requires { ⌜ length (now breaks) ≤ 256 ⌝ }
+    requires { ⌜ length (now breaks) ≤ 2 * maxBreaks ⌝ }
     ensures { λ r. ⌜ (r ≡ drainFrom starts (now (breaks .entry)) count) × (mag r < 2 ^ 53) ⌝ }
 {
     if count == 0 {
@@ -104,7 +96,7 @@ fn attributes_from(
     breaks: &[f64],
     count: usize,
 ) -> ScoreAttributes
-    requires { ⌜ (length (now breaks) ≤ 256) × SettingsIn settings × (inLimits (found .sum) ≡ true) × (unsound (found .sum) ≡ false) ⌝ }
+    requires { ⌜ (length (now breaks) ≤ 2 * maxBreaks) × SettingsIn settings × (inLimits (found .sum) ≡ true) × (unsound (found .sum) ≡ false) ⌝ }
     ensures { λ r. ⌜ r ≡ attributesFrom found settings (now (breaks .entry)) count ⌝ }
 {
     let sum = found.sum;
@@ -124,7 +116,7 @@ fn read_in(
     breaks: &[f64],
     play: Play,
 ) -> GivenPlay
-    requires { ⌜ Holds size count (now board) (now starts) × (length (now breaks) ≤ 256) × SettingsIn settings ⌝ }
+    requires { ⌜ Holds size count (now board) (now starts) × (length (now breaks) ≤ 2 * maxBreaks) × SettingsIn settings ⌝ }
     ensures { λ r. ⌜ r ≡ givenAnswer (scoreFrom (now (board .entry)) (now (starts .entry)) count settings (now (breaks .entry)) play) ⌝ }
 {
     let p = least(play.passed_objects as u64, count as u64) as usize;
@@ -150,7 +142,7 @@ pub fn read(
 {
     if MAX_BREAK_TIMES < breaks.len() {
         return GivenPlay::Refused {
-            number: 6,
+            number: refusal::COUNT,
             offset: 0,
         };
     }
@@ -159,14 +151,14 @@ pub fn read(
         Room::Is(size) => {
             if has_bad_arguments(settings, breaks) {
                 return GivenPlay::Refused {
-                    number: 4,
+                    number: refusal::RANGE,
                     offset: 0,
                 };
             }
             let mods = play.mods;
             if has_bad_mods(mods) {
                 return GivenPlay::Refused {
-                    number: 8,
+                    number: refusal::PLAY_FIELD,
                     offset: 0,
                 };
             }

@@ -1,6 +1,8 @@
 // What a read finds of the first places: their entries combined, and the starts that the drain leans on.
 use entries::entry::Entry;
 use entries::values::is_unsound;
+use records::fields::is_time;
+use records::refusal;
 use tree::Combined;
 use tree::Size;
 use tree::quick::quick_sum_of_first;
@@ -8,7 +10,7 @@ ghost use mathlib.Core.Path.{_≡_};
 ghost use Prim.Native.Nat.{_-_, _≤_};
 ghost use lib.ListN.{length};
 ghost use Rattle.board.specs.Place.{Holds};
-ghost use Rattle.board.specs.Search.{timeBad, startsIn, startsFound, foundOf, searchOf};
+ghost use Rattle.board.specs.Search.{startsIn, startsFound, foundOf, searchOf};
 
 // The starts of the first object and of the last that counts; both 0 where a map has none.
 pub struct Starts {
@@ -31,18 +33,6 @@ pub enum Search {
     Refused(u8),
 }
 
-// A NaN fails both tests.
-pub fn is_bad_time(x: f64) -> bool
-    ensures { λ r. ⌜ r ≡ timeBad x ⌝ }
-{
-    if x >= -8000000.0 {
-        if x <= 8000000.0 {
-            return false;
-        }
-    }
-    true
-}
-
 // The place of the last object that counts, which is the first where none is passed.
 fn last_place(p: usize) -> usize
     ensures { λ r. ⌜ r ≡ p - 1 ⌝ }
@@ -63,10 +53,10 @@ fn find_starts(starts: &[f64], count: usize, p: usize) -> StartsFound
     }
     let first = starts[0];
     let last = starts[last_place(p)];
-    if is_bad_time(first) {
+    if !is_time(first) {
         return StartsFound::Bad;
     }
-    if is_bad_time(last) {
+    if !is_time(last) {
         return StartsFound::Bad;
     }
     StartsFound::Are(Starts { first, last })
@@ -81,10 +71,10 @@ pub fn find(board: &[u64], starts: &[f64], size: Size, count: usize, p: usize) -
         Combined::Refused(number) => Search::Refused(number),
         Combined::Is(sum) => {
             let StartsFound::Are(found) = find_starts(starts, count, p) else {
-                return Search::Refused(13);
+                return Search::Refused(refusal::BOARD);
             };
             if is_unsound(sum) {
-                return Search::Refused(13);
+                return Search::Refused(refusal::BOARD);
             }
             Search::Found(Found { sum, starts: found })
         }

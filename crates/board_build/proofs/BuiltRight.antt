@@ -8,6 +8,7 @@ use lib.Ieee.{Float}
 use lib.ListN.{length, take, drop}
 use lib.Pow.{pow-pos}
 use lib.Seq.{take-all}
+use Rattle.records.specs.Limits.{maxObjects}
 use Rattle.encoding.specs.Limits.{MapWithin}
 use Rattle.records.specs.Objects.{Object}
 use Rattle.map_file.specs.File.{Map, fileOf}
@@ -20,7 +21,7 @@ use Rattle.scoring.specs.View.{playsOf}
 use Rattle.scoring.specs.declared.plays.Wanted.{Wanted}
 use Rattle.scoring.specs.declared.plays.Plays.the-variants as plays
 use Rattle.scoring.proofs.Answers.{NoNumber, no-number, values-within, refusal-is, Good, good-is}
-use Rattle.entries.specs.Entry.{entryOf, inLimits}
+use Rattle.entries.specs.Entry.{entryOf, inLimits, placeWords}
 use Rattle.entries.proofs.Accepted.{entry-within}
 use Rattle.entries.proofs.Scores.{counts-are}
 use Rattle.tree.specs.Size.{levelsOf, capOf}
@@ -45,12 +46,12 @@ unfolding scoreAttributesAt scoreAttributesOf entryOf
 count-of m p = sym (ap (λ (c : NestedScorePerObject). c .«object_count») (counts-are (take p (m .objects))))
 
 -- ---- the words, for any numbers that are the places and the objects
-module _ (os : List Object) (b : List ℕ) (fits : inLimits (entryOf os) ≡ true) (few : length os ≤ 8192) (room : 26 * capOf (length os) ≤ length b)
+module _ (os : List Object) (b : List ℕ) (fits : inLimits (entryOf os) ≡ true) (few : length os ≤ maxObjects) (room : placeWords * capOf (length os) ≤ length b)
     {c n : ℕ} {w : List ℕ} (cap : c ≡ capOf (length os)) (count : n ≡ length os) (words : w ≡ laid (capOf (length os)) os b) where
   raises-at : Raises (c - 1) (emptied c n w)
   raises-at = rw (cap, count, words) (fills os b fits few room)
 
-  filled-at : filled c n w ≡ boardOf os ++ drop (26 * capOf (length os)) b
+  filled-at : filled c n w ≡ boardOf os ++ drop (placeWords * capOf (length os)) b
   filled-at = rw (cap, count, words) (build-right os b fits few room)
 
 -- ---- a file
@@ -128,7 +129,7 @@ module _ (s : List ℕ) (b : List ℕ) (ts : List Float) where
             ap (λ (x : List ℕ × List Float). x .1) r ∙ ap (λ (l : List Object). startsOf l ++ drop (length l) ts) objects-are
 
         -- what is laid can be filled
-        pub build-fills : (1 ≤ size .cap) × (a .«object_count» ≤ size .cap) × (size .cap * 26 ≤ length b′)
+        pub build-fills : (1 ≤ size .cap) × (a .«object_count» ≤ size .cap) × (size .cap * placeWords ≤ length b′)
             × Raises (size .cap - 1) (emptied (size .cap) (a .«object_count») b′)
         build-fills =
             let some : 1 ≤ capOf (length os) = pow-pos (levelsOf (length os)) in
@@ -145,6 +146,6 @@ module _ (s : List ℕ) (b : List ℕ) (ts : List Float) where
         unfolding buildOf _>>_
         build-done b″ v =
             let board = v ∙ filled-at os b fits (holds .few) (holds .words) (holds .cap) count-is words-are in
-            let given : buildOf os b ts ≡ good (boardOf os ++ drop (26 * capOf (length os)) b, startsOf os ++ drop (length os) ts) =
+            let given : buildOf os b ts ≡ good (boardOf os ++ drop (placeWords * capOf (length os)) b, startsOf os ++ drop (length os) ts) =
             rw (rooms.told-is b ts (length os) size there .0) in
             rw (board, starts-are) (on-objects given)

@@ -4,6 +4,7 @@ use Prim.Native.Nat.{ℕ, _*_}
 use mathlib.Core.List.{List, _++_}
 use lib.Ieee.{Float}
 use lib.ListN.{length, drop}
+use Rattle.entries.specs.Entry.{placeWords}
 use Rattle.records.specs.Refusals.{Checked, good, refused, _>>_}
 use Rattle.records.specs.Objects.{Object}
 use Rattle.scoring.specs.Scores.{Outcome, refusal, values, Scores}
@@ -17,7 +18,7 @@ use Rattle.board.specs.declared.place.Written.the-variants as written
 unfoldable pub buildOf : List Object → List ℕ → List Float → Checked (List ℕ × List Float)
 buildOf os b ts = do
   roomFor b ts (length os)
-  good (boardOf os ++ drop (26 * capOf (length os)) b, startsOf os ++ drop (length os) ts)
+  good (boardOf os ++ drop (placeWords * capOf (length os)) b, startsOf os ++ drop (length os) ts)
 
 -- a file that is refused, its plays' refusals included, keeps its number and offset
 abbrev pub built : Outcome Scores → List ℕ → List Float → Written × List ℕ × List Float

@@ -5,6 +5,8 @@ use mathlib.Core.List.{List, _++_}
 use lib.Dec.{eqb}
 use lib.Ieee.{Float}
 use lib.ListN.{length, drop, set}
+use Rattle.map_file.specs.Order.{headerRank, breakRank}
+use Rattle.records.specs.Limits.{maxNested, headerSize, breakSize, playSize}
 use Rattle.records.specs.Refusals.{pick}
 use Rattle.records.specs.Objects.{Object}
 use Rattle.map_file.specs.File.{File, Result, accepted, refusedAt}
@@ -13,7 +15,7 @@ use Rattle.records.specs.declared.record.Record.the-variants as record·case
 use Rattle.records.specs.declared.record.Read.{Read}
 use Rattle.records.specs.declared.record.Read.the-variants as read
 use Rattle.simulator.specs.Limits.{nestedCount}
-use Rattle.entries.specs.Entry.{ownEntry}
+use Rattle.entries.specs.Entry.{ownEntry, placeWords}
 use Rattle.entries.specs.Words.{putEntry}
 use Rattle.tree.specs.Board.{startsOf}
 use Rattle.tree.specs.Build.{laid}
@@ -23,7 +25,7 @@ abbrev pub LaysRecord : ℕ → ℕ → Record → List ℕ → List Float → T
 LaysRecord cap place (record·case.Header s) b ts = Unit
 LaysRecord cap place (record·case.Break x) b ts = Unit
 LaysRecord cap place (record·case.Object o) b ts =
-    (nestedCount (o .kind) ≤ 1000) × (place < cap) × (26 * cap ≤ length b) × (place < length ts)
+    (nestedCount (o .kind) ≤ maxNested) × (place < cap) × (placeWords * cap ≤ length b) × (place < length ts)
 LaysRecord cap place (record·case.Play p) b ts = Unit
 
 abbrev pub recordLaid : ℕ → ℕ → Record → List ℕ → List Float → List ℕ × List Float
@@ -43,14 +45,14 @@ readLaid cap place (read.Good item n) b ts = let after = recordLaid cap place it
 
 -- the size of a record that is no object, by its place in the order: a header, a break or a play
 abbrev pub sizeOf : ℕ → ℕ
-sizeOf rank = pick (eqb rank 1) 14 (pick (eqb rank 2) 18 44)
+sizeOf rank = pick (eqb rank headerRank) headerSize (pick (eqb rank breakRank) breakSize playSize)
 
 -- an accepted file, and room for its objects
 pub record Lays (cap : ℕ) (r : Result) (b : List ℕ) (ts : List Float) : Type 0 where
   pub file : File
   pub read : r ≡ accepted file
   pub places : length (file .map .objects) ≤ cap
-  pub words : 26 * cap ≤ length b
+  pub words : placeWords * cap ≤ length b
   pub numbers : length (file .map .objects) ≤ length ts
 
 -- the objects of a file

@@ -4,9 +4,15 @@ use board::place::Written;
 use board::place::room_for;
 use entries::entry::Entry;
 use entries::words::store;
+use map_file::file::BREAK_RANK;
+use map_file::file::HEADER_RANK;
+use map_file::file::OBJECT_RANK;
 use map_file::file::rank_of;
 use numbers::words::word_at;
+use records::beatmap::BreakPeriod;
+use records::beatmap::Settings;
 use records::hit_object;
+use records::play::Play;
 use records::record::Read;
 use records::record::Record;
 use scoring::plays::Plays;
@@ -78,13 +84,13 @@ fn lay_object(
 fn size_of(rank: u8) -> usize
     ensures { λ r. ⌜ r ≡ sizeOf rank ⌝ }
 {
-    if rank == 1 {
-        return 14;
+    if rank == HEADER_RANK {
+        return Settings::SIZE;
     }
-    if rank == 2 {
-        return 18;
+    if rank == BREAK_RANK {
+        return BreakPeriod::SIZE;
     }
-    44
+    Play::SIZE
 }
 
 // The own entries and the starts of an accepted file's objects.
@@ -98,7 +104,7 @@ fn lay(file: &[u8], board: &mut [u64], starts: &mut [f64], cap: usize)
         let r = &file[at..];
         let mark = word_at(r, 0, 2);
         let rank = rank_of(mark);
-        if rank == 3 {
+        if rank == OBJECT_RANK {
             at += lay_object(r, mark, board, starts, cap, place);
             place += 1;
         } else {

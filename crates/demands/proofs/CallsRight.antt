@@ -10,6 +10,8 @@ use borrow.Author.Tests.{eq-eqb, ne-eqb, ltb-false}
 use lib.Dec.{eqb, ltb}
 use lib.Ieee.{Float}
 use lib.ListN.{length, drop, set}
+use Rattle.records.specs.Limits.{maxBonus}
+use Rattle.entries.specs.Entry.{placeWords}
 use Rattle.records.specs.Refusals.{Checked, good, refused, _>>_}
 use Rattle.records.specs.Objects.{Object, bonus}
 use Rattle.map_file.specs.File.{Map, File, Result, accepted, refusedAt, fileOf}
@@ -42,12 +44,12 @@ use Rattle.demands.proofs.ReadRight.{read-right}
 put-within : (m : Map) → MapWithin m → (place : ℕ) (r : List ℕ) → MapWithin (putIfAccepted m place (objectIn r))
 put-within m w place r = go (objectIn r) refl
   where
-    low : (o : Object) → ObjectWithin o → isAccepted (changed m place o) ≡ true → bonus (set (m .objects) place o) ≤ 2147483647
-    low o v e = by (ltb 2147483647 (bonus (set (m .objects) place o))) refl (sym (by-bonus m w place o v) ∙ e)
+    low : (o : Object) → ObjectWithin o → isAccepted (changed m place o) ≡ true → bonus (set (m .objects) place o) ≤ maxBonus
+    low o v e = by (ltb maxBonus (bonus (set (m .objects) place o))) refl (sym (by-bonus m w place o v) ∙ e)
       where
-        by : (t : Bool) → ltb 2147483647 (bonus (set (m .objects) place o)) ≡ t → mathlib.Core.Bool.not t ≡ true → bonus (set (m .objects) place o) ≤ 2147483647
+        by : (t : Bool) → ltb maxBonus (bonus (set (m .objects) place o)) ≡ t → mathlib.Core.Bool.not t ≡ true → bonus (set (m .objects) place o) ≤ maxBonus
         by true q h = never (cc)
-        by false q h = ltb-false 2147483647 (bonus (set (m .objects) place o)) q
+        by false q h = ltb-false maxBonus (bonus (set (m .objects) place o)) q
 
     pick : (o : Object) → ObjectWithin o → (t : Bool) → isAccepted (changed m place o) ≡ t → MapWithin (cond t (changed m place o) m)
     pick o v true e = changed-within m w place o v (low o v e)
@@ -151,7 +153,7 @@ module _ (words : List ℕ) (numbers : List Float) where
 -- ---- from the build on
 abbrev Built : Map → List ℕ → List Float → Written × List ℕ × List Float → Type 0
 Built m b ts z =
-    _≡_ {A = Lent} (record { board = z .1; starts = z .2 }) (lentFor m (drop (26 * capOf (length (m .objects))) b) (drop (length (m .objects)) ts))
+    _≡_ {A = Lent} (record { board = z .1; starts = z .2 }) (lentFor m (drop (placeWords * capOf (length (m .objects))) b) (drop (length (m .objects)) ts))
 
 build-done : (m : Map) (b : List ℕ) (ts : List Float) → writtenLeft (buildOf (m .objects) b ts) b ts .0 ≡ written.Done
     → Built m b ts (writtenLeft (buildOf (m .objects) b ts) b ts)
@@ -159,7 +161,7 @@ unfolding buildOf _>>_
 build-done m b ts e = go (roomFor b ts (length (m .objects))) e
   where
     laid : List ℕ × List Float
-    laid = (boardOf (m .objects) ++ drop (26 * capOf (length (m .objects))) b, startsOf (m .objects) ++ drop (length (m .objects)) ts)
+    laid = (boardOf (m .objects) ++ drop (placeWords * capOf (length (m .objects))) b, startsOf (m .objects) ++ drop (length (m .objects)) ts)
 
     go : (x : Checked (Unit {0})) → writtenLeft (x >> good laid) b ts .0 ≡ written.Done → Built m b ts (writtenLeft (x >> good laid) b ts)
     go (refused k) e = never (cc)
@@ -169,7 +171,7 @@ build-done m b ts e = go (roomFor b ts (length (m .objects))) e
 pub record Begins (s : List ℕ) (b : List ℕ) (ts : List Float) : Type 0 where
   pub within : MapWithin (mapIn (fileOf s))
   pub lent : lentBy s b ts
-      ≡ lentFor (mapIn (fileOf s)) (drop (26 * capOf (length (mapIn (fileOf s) .objects))) b) (drop (length (mapIn (fileOf s) .objects)) ts)
+      ≡ lentFor (mapIn (fileOf s)) (drop (placeWords * capOf (length (mapIn (fileOf s) .objects))) b) (drop (length (mapIn (fileOf s) .objects)) ts)
 
 pub begins : (s : List ℕ) (b : List ℕ) (ts : List Float) → built (scoresOf (fileOf s)) b ts .0 ≡ written.Done → Begins s b ts
 begins s b ts e = go (scoresOf (fileOf s)) refl e
@@ -184,14 +186,14 @@ begins s b ts e = go (scoresOf (fileOf s)) refl e
           lent =
               ap (λ (x : Outcome Scores). record { board = built x b ts .1; starts = built x b ts .2 }) q
               ∙ build-done (sc .map) b ts e
-              ∙ ap (λ (x : Map). lentFor x (drop (26 * capOf (length (x .objects))) b) (drop (length (x .objects)) ts)) map;
+              ∙ ap (λ (x : Map). lentFor x (drop (placeWords * capOf (length (x .objects))) b) (drop (length (x .objects)) ts)) map;
         }
 
 pub calls-right : Claim
 calls-right s b ts cs e stand =
     let k = begins s b ts e in
     let m = mapIn (fileOf s) in
-    let words = drop (26 * capOf (length (m .objects))) b in
+    let words = drop (placeWords * capOf (length (m .objects))) b in
     let numbers = drop (length (m .objects)) ts in
     subst (λ (l : Lent). Right words numbers cs m l) (sym (k .lent))
     (list-right words numbers cs m (k .within) (subst (λ (l : Lent). MayStand cs m l) (k .lent) stand))

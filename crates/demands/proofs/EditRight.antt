@@ -11,6 +11,7 @@ use borrow.Author.Tests.{lt-ltb, le-ltb}
 use lib.Dec.{ltb}
 use lib.Ieee.{Float}
 use lib.ListN.{length, set, length-append, length-map}
+use Rattle.records.specs.Limits.{maxBonus}
 use Rattle.records.specs.Refusals.{Checked, good, refused, _>>=_}
 use Rattle.records.specs.Objects.{Object, bonus}
 use Rattle.map_file.specs.File.{Map}
@@ -75,7 +76,7 @@ module _ (m : Map) (w : MapWithin m) (words : List ℕ) (numbers : List Float) w
       unfolding putAt _>>=_
       put o v e =
           ap left (edits.puts b ts (length os) place r room inside o e)
-          ∙ go (ltb 2147483647 (bonus (set os place o))) (change os words place o (w .objects) (w .few-objects) (w .low-bonus) v inside) (by-bonus m w place o v)
+          ∙ go (ltb maxBonus (bonus (set os place o))) (change os words place o (w .objects) (w .few-objects) (w .low-bonus) v inside) (by-bonus m w place o v)
         where
           stored : Checked (List ℕ) → Written × List ℕ × List Float
           stored x = left (x >>= (λ l. good (l, set ts place (o .start))))

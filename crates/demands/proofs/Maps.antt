@@ -8,6 +8,7 @@ use native.Mathlib.Decide.{decLt}
 use borrow.Author.Tests.{ltb-true, ltb-false}
 use lib.Dec.{ltb}
 use lib.ListN.{length, set, length-set}
+use Rattle.records.specs.Limits.{maxObjects, maxBonus}
 use Rattle.records.specs.Objects.{Object, bonus, kindBonus}
 use Rattle.map_file.specs.File.{Map, accepted, fileOf}
 use Rattle.map_file.proofs.Reading.{length-snoc, bonus-snoc}
@@ -44,8 +45,8 @@ no-objects : (m : Map) (os : List Object) → mapFile (withObjects m []) ++ each
 unfolding mapFile each
 no-objects m os = simp (append-assoc, append-nil)
 
-within-more : (m : Map) (os : List Object) (o : Object) → MapWithin (withObjects m os) → ObjectWithin o → length os < 8192
-    → bonus os + kindBonus (o .kind) ≤ 2147483647 → MapWithin (withObjects m (os ++ (o ∷ [])))
+within-more : (m : Map) (os : List Object) (o : Object) → MapWithin (withObjects m os) → ObjectWithin o → length os < maxObjects
+    → bonus os + kindBonus (o .kind) ≤ maxBonus → MapWithin (withObjects m (os ++ (o ∷ [])))
 within-more m os o w v room low =
     let more = length-snoc os o in
     let sum = bonus-snoc os o in
@@ -59,15 +60,15 @@ within-more m os o w v room low =
     }
 
 -- the objects that are left to read after some
-over : (m : Map) (left os : List Object) → MapWithin (withObjects m os) → Each ObjectWithin left → length os + length left ≤ 8192
-    → 2147483647 < bonus os + bonus left → getsNone (fileOf (mapFile (withObjects m os) ++ each objectBytes left)) ≡ false
+over : (m : Map) (left os : List Object) → MapWithin (withObjects m os) → Each ObjectWithin left → length os + length left ≤ maxObjects
+    → maxBonus < bonus os + bonus left → getsNone (fileOf (mapFile (withObjects m os) ++ each objectBytes left)) ≡ false
 unfolding bonus each
 over m [] os w ws few high = absurd (let low = w .low-bonus in omega (arith, low, high))
-over m (o ∷ left) os w (one v vs) few high = go (λ u n h. over m left (os ++ (o ∷ [])) u vs n h) (decLt 2147483647 (bonus os + kindBonus (o .kind)))
+over m (o ∷ left) os w (one v vs) few high = go (λ u n h. over m left (os ++ (o ∷ [])) u vs n h) (decLt maxBonus (bonus os + kindBonus (o .kind)))
   where
-    go : (MapWithin (withObjects m (os ++ (o ∷ []))) → length (os ++ (o ∷ [])) + length left ≤ 8192 → 2147483647 < bonus (os ++ (o ∷ [])) + bonus left
+    go : (MapWithin (withObjects m (os ++ (o ∷ []))) → length (os ++ (o ∷ [])) + length left ≤ maxObjects → maxBonus < bonus (os ++ (o ∷ [])) + bonus left
         → getsNone (fileOf (mapFile (withObjects m (os ++ (o ∷ []))) ++ each objectBytes left)) ≡ false)
-        → Dec (2147483647 < bonus os + kindBonus (o .kind)) → getsNone (fileOf (mapFile (withObjects m os) ++ (objectBytes o ++ each objectBytes left))) ≡ false
+        → Dec (maxBonus < bonus os + kindBonus (o .kind)) → getsNone (fileOf (mapFile (withObjects m os) ++ (objectBytes o ++ each objectBytes left))) ≡ false
     go more (yes h) = ap getsNone (over-bonus (withObjects m os) o (each objectBytes left) w v (omega (arith, few)) h .read)
     go more (no h) =
         let count = length-snoc os o in
@@ -80,7 +81,7 @@ unfolding bonus
 nothing-within m w =
     record { settings = w .settings; breaks = w .breaks; few-breaks = w .few-breaks; objects = none; few-objects = omega arith; low-bonus = omega arith }
 
-over-refused : (m : Map) (os : List Object) → MapWithin m → Each ObjectWithin os → length os ≤ 8192 → 2147483647 < bonus os → isAccepted (withObjects m os) ≡ false
+over-refused : (m : Map) (os : List Object) → MapWithin m → Each ObjectWithin os → length os ≤ maxObjects → maxBonus < bonus os → isAccepted (withObjects m os) ≡ false
 unfolding isAccepted bonus
 over-refused m os w ws few high =
     ap (λ (s : List ℕ). getsNone (fileOf s)) (sym (no-objects m os)) ∙ over m os [] (nothing-within m w) ws (omega (arith, few)) (omega (arith, high))
@@ -90,16 +91,16 @@ module _ (m : Map) (w : MapWithin m) (place : ℕ) (o : Object) (v : ObjectWithi
   objects-within : Each ObjectWithin (set (m .objects) place o)
   objects-within = each-set place o (w .objects) v
 
-  few : length (set (m .objects) place o) ≤ 8192
-  few = subst (λ (n : ℕ). n ≤ 8192) (sym (length-set (m .objects) place o)) (w .few-objects)
+  few : length (set (m .objects) place o) ≤ maxObjects
+  few = subst (λ (n : ℕ). n ≤ maxObjects) (sym (length-set (m .objects) place o)) (w .few-objects)
 
-  pub changed-within : bonus (set (m .objects) place o) ≤ 2147483647 → MapWithin (changed m place o)
+  pub changed-within : bonus (set (m .objects) place o) ≤ maxBonus → MapWithin (changed m place o)
   changed-within low =
       record { settings = w .settings; breaks = w .breaks; few-breaks = w .few-breaks; objects = objects-within; few-objects = few; low-bonus = low }
 
-  pub by-bonus : isAccepted (changed m place o) ≡ not (ltb 2147483647 (bonus (set (m .objects) place o)))
-  by-bonus = go (ltb 2147483647 (bonus (set (m .objects) place o))) refl
+  pub by-bonus : isAccepted (changed m place o) ≡ not (ltb maxBonus (bonus (set (m .objects) place o)))
+  by-bonus = go (ltb maxBonus (bonus (set (m .objects) place o))) refl
     where
-      go : (t : Bool) → ltb 2147483647 (bonus (set (m .objects) place o)) ≡ t → isAccepted (changed m place o) ≡ not t
-      go true e = over-refused m (set (m .objects) place o) w objects-within few (ltb-true 2147483647 (bonus (set (m .objects) place o)) e)
-      go false e = within-accepted (changed m place o) (changed-within (ltb-false 2147483647 (bonus (set (m .objects) place o)) e))
+      go : (t : Bool) → ltb maxBonus (bonus (set (m .objects) place o)) ≡ t → isAccepted (changed m place o) ≡ not t
+      go true e = over-refused m (set (m .objects) place o) w objects-within few (ltb-true maxBonus (bonus (set (m .objects) place o)) e)
+      go false e = within-accepted (changed m place o) (changed-within (ltb-false maxBonus (bonus (set (m .objects) place o)) e))

@@ -45,11 +45,9 @@ use Rattle.demands.proofs.SoundWords.{sound-words}
 
 -- ---- the arguments
 time-good : (x : Float) → IsTime x → timeBad x ≡ false
-unfolding timeBad
 time-good x h = simp (h .above, h .below)
 
 setting-good : (x : Float) → IsSetting x → settingBad x ≡ false
-unfolding settingBad
 setting-good x h = simp (h .above, h .below)
 
 settings-good : (s : Settings) → SettingsWithin s → settingsBad s ≡ false

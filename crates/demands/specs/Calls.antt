@@ -7,7 +7,8 @@ use mathlib.Core.List.{List, [], _∷_, _++_}
 use lib.Dec.{eqb, ltb}
 use lib.Ieee.{Float}
 use lib.ListN.{length, drop, set}
-use Rattle.records.specs.Refusals.{Checked, good, refused}
+use Rattle.entries.specs.Entry.{placeWords}
+use Rattle.records.specs.Refusals.{Checked, good, refused, BONUS, PLACE}
 use Rattle.records.specs.Objects.{Object}
 use Rattle.map_file.specs.File.{Map, File, Result, accepted, refusedAt, fileOf}
 use Rattle.records.specs.declared.beatmap.BreakPeriod.{BreakPeriod}
@@ -104,10 +105,10 @@ mapAfter (read n s br p) m = m
 -- "every other edit is refused": with 12, with the number of its record's first wrong, or with 7
 abbrev pub recordAnswer : Map → ℕ → Checked Object → Written
 recordAnswer m place (refused n) = written.Refused n 0
-recordAnswer m place (good o) = cond (isAccepted (changed m place o)) written.Done (written.Refused 7 0)
+recordAnswer m place (good o) = cond (isAccepted (changed m place o)) written.Done (written.Refused BONUS 0)
 
 abbrev pub editAnswer : Map → ℕ → List ℕ → Written
-editAnswer m place r = cond (ltb place (length (m .objects))) (recordAnswer m place (objectIn r)) (written.Refused 12 0)
+editAnswer m place r = cond (ltb place (length (m .objects))) (recordAnswer m place (objectIn r)) (written.Refused PLACE 0)
 
 -- the play of a file with one play
 abbrev pub onlyPlay : List PlayScore → GivenPlay
@@ -163,4 +164,4 @@ Claim =
     (s : List ℕ) (b : List ℕ) (ts : List Float) (cs : List Call)
     → built (scoresOf (fileOf s)) b ts .0 ≡ written.Done
     → MayStand cs (mapIn (fileOf s)) (lentBy s b ts)
-    → Right (drop (26 * capOf (length (mapIn (fileOf s) .objects))) b) (drop (length (mapIn (fileOf s) .objects)) ts) cs (mapIn (fileOf s)) (lentBy s b ts)
+    → Right (drop (placeWords * capOf (length (mapIn (fileOf s) .objects))) b) (drop (length (mapIn (fileOf s) .objects)) ts) cs (mapIn (fileOf s)) (lentBy s b ts)

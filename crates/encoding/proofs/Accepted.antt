@@ -9,9 +9,11 @@ use lib.Dec.{T, eqb, ltb, lit<}
 use lib.ListN.{length, take, drop, length-take}
 use lib.Ieee.{Float, Format, binary32, binary64, ofBits, neg, le}
 use lib.Ieee.Bits.{ofBits-fits}
+use Rattle.encoding.proofs.FieldBytes.{doubleWithin}
+use Rattle.records.specs.Limits.{maxNested, maxBreaks, maxObjects, maxBonus}
 use Rattle.numbers.specs.Words.{wordAt}
 use Rattle.records.specs.Refusals.{Checked, good, refused, _>>=_, pick}
-use Rattle.records.specs.Fields.{timed, set, doubleWithin, settingOf}
+use Rattle.records.specs.Fields.{timed, set, settingOf}
 use Rattle.records.specs.Objects.{Item, circle, slider, spinner, Object, bonus, kindBonus}
 use Rattle.records.specs.Records.{Content, header, break, object, play, Found, CI, SL, SP, headerOf, breakOf, circleOf, nestedOf, sliderOf, spinnerOf, playOf, objectOf, contentView}
 use Rattle.map_file.specs.Order.{MH, BR, PL, bodyOf, recordOf, contentBonus}
@@ -73,7 +75,7 @@ slider-within r =
     let l = drop 12 r in
     all-when 2 _ _ (λ _. all-bind _ _ (within-all _ _ (wordAt r 2 8)) (λ x a. all-when 6 _ _ (λ few. all-when 2 _ _ (λ _.
     all-bind (nestedOf (take n l)) _ (nested-are (take n l)) (λ is q.
-    let low : n ≤ 1000 = ltb-false 1000 n few in
+    let low : n ≤ maxNested = ltb-false maxNested n few in
     let count = ap length q ∙ nested-length is in
     let h = length-take n l in
     that (record { start = a; kind = omega (arith, count, h, low) }))))))
@@ -99,10 +101,10 @@ record-within r c =
 pub record FileWithin (f : File) : Type 0 where
   pub settings : 0 < f .last → SettingsWithin (f .map .settings)
   pub breaks : Each BreakWithin (f .map .breaks)
-  pub few-breaks : length (f .map .breaks) ≤ 128
+  pub few-breaks : length (f .map .breaks) ≤ maxBreaks
   pub objects : Each ObjectWithin (f .map .objects)
-  pub few-objects : length (f .map .objects) ≤ 8192
-  pub low-bonus : bonus (f .map .objects) ≤ 2147483647
+  pub few-objects : length (f .map .objects) ≤ maxObjects
+  pub low-bonus : bonus (f .map .objects) ≤ maxBonus
 
 pub each-snoc : {A : Type 0} {P : A → Type 0} (l : List A) (a : A) → Each P l → P a → Each P (l ++ (a ∷ []))
 each-snoc [] a none p = one p none

@@ -7,6 +7,9 @@ use native.Mathlib.Omega.{arith}
 use borrow.Author.Tests.{eqb-true, eqb-false, leb-true}
 use lib.Dec.{T, eqb, leb, eqb→eq, leb→le}
 use lib.ListN.{length, length-append}
+use lib.Ieee.{Float}
+use Rattle.records.specs.declared.fields.Double.{Double}
+use Rattle.records.specs.Fields.{within, doubleIf}
 use Rattle.numbers.specs.Words.{wordAt, bytesOf}
 use Rattle.numbers.proofs.words.Laws.{wordAt-bytes, wordAt-skip, bytesOf-length}
 use Rattle.records.specs.Refusals.{pick}
@@ -62,3 +65,7 @@ field-back (f ∷ fs) rest at n p t = go (eqb at 0) refl t (λ q. field-back fs 
 pub mark-back : (m : ℕ) (fs : List (ℕ × ℕ)) (rest : List ℕ) → m < 256 ^ 2 → wordAt (fieldsOf ((2, m) ∷ fs) ++ rest) 0 2 ≡ m
 unfolding fieldsOf
 mark-back m fs rest h = rw append-assoc (wordAt-bytes 2 m (fieldsOf fs ++ rest) h)
+
+-- a float field that is held to a range: times and durations
+abbrev pub doubleWithin : Float → Float → Float → Double
+doubleWithin low high x = doubleIf (within low high x) x

@@ -9,10 +9,11 @@ use lib.Dec.{T, eqb, ltb, lit<}
 use lib.ListN.{length, take, drop, length-append}
 use lib.Seq.{take-at, drop-at}
 use lib.Ieee.{Float, Format, binary32, binary64, top, fits, ofBits, toBits, lt, le}
+use Rattle.records.specs.Limits.{maxNested}
 use Rattle.numbers.specs.Words.{wordAt, bytesOf}
 use Rattle.numbers.proofs.bits.Laws.{written-read, written-lt}
 use Rattle.records.specs.Refusals.{Checked, good, refused, _>>=_, _>>_, refuse_when_, pick}
-use Rattle.records.specs.Fields.{timeLimit, timeOf, durationOf, settingOf, doubleWithin, played}
+use Rattle.records.specs.Fields.{timeLimit, timeOf, durationOf, settingOf, played}
 use Rattle.records.specs.Objects.{Item, tick, repeat, circle, slider, spinner, Object}
 use Rattle.records.specs.Records.{header, break, object, play, Found, CI, SL, SP, headerOf, breakOf, circleOf, itemOf, nestedOf, sliderOf, spinnerOf, objectOf, playOf}
 use Rattle.encoding.specs.Limits.{Within, IsTime, IsSetting, IsDuration, SettingsWithin, BreakWithin, KindWithin, ObjectWithin, ScoreWithin, PlaySized, PlayWithin}
@@ -29,7 +30,7 @@ use Rattle.records.specs.declared.play.Score.the-variants as score
 use Rattle.records.specs.declared.play.Play.{Play}
 use Rattle.records.specs.declared.fields.Double.the-variants as double
 use Rattle.records.specs.declared.fields.Single.the-variants as single
-use Rattle.encoding.proofs.FieldBytes.{Fit, fieldAt, begins, widths, fields-length, field-back}
+use Rattle.encoding.proofs.FieldBytes.{Fit, fieldAt, begins, widths, fields-length, field-back, doubleWithin}
 
 -- ---- floats
 -- a float's bits fit its field
@@ -98,7 +99,7 @@ nested-back [] = refl
 nested-back (i ∷ []) = simp (item-back i)
 nested-back (i ∷ j ∷ is) = simp (item-back i, nested-back (j ∷ is))
 
-pub slider-back : (x : Float) (is : List Item) (rest : List ℕ) → IsTime x → length is + 1 ≤ 1000
+pub slider-back : (x : Float) (is : List Item) (rest : List ℕ) → IsTime x → length is + 1 ≤ maxNested
     → sliderOf ((fieldsOf (sliderFields x (length is + 1)) ++ nestedBytes is) ++ rest) ≡ good (object (record { start = x; kind = slider is }), 12 + (length is + 1))
 unfolding sliderOf _>>=_ _>>_ refuse_when_
 slider-back x is rest w few =
@@ -115,7 +116,7 @@ slider-back x is rest w few =
     let whole : 12 + n ≤ length (fieldsOf fs ++ l) = omega (arith, all, more, wide, long) in
     let part : take n (drop 12 (fieldsOf fs ++ l)) ≡ nestedBytes is = ap (take n) (drop-at (fieldsOf fs) l 12 fixed) ∙ take-at (nestedBytes is) rest n long in
     rw append-assoc
-    (simp (there fs l 12 (omega arith), field-back fs l 2 8 ok tt, within-double _ _ _ w, field-back fs l 10 2 ok tt, le-ltb 1000 n few, le-ltb _ _ whole, part, nested-back is))
+    (simp (there fs l 12 (omega arith), field-back fs l 2 8 ok tt, within-double _ _ _ w, field-back fs l 10 2 ok tt, le-ltb maxNested n few, le-ltb _ _ whole, part, nested-back is))
 
 -- ---- plays
 origin-back : (o : OsuScoreOrigin) → originOf (originByte o) ≡ origin.Is o

@@ -10,6 +10,7 @@ use borrow.Author.Tests.{lt-ltb, le-ltb, lt-leb, le-leb, ne-eqb}
 use lib.Dec.{lit<}
 use lib.ListN.{length, drop, length-append, length-drop}
 use lib.Seq.{drop-drop, drop-at}
+use Rattle.records.specs.Limits.{maxBonus, maxBreaks, maxObjects}
 use Rattle.numbers.specs.Words.{wordAt}
 use Rattle.records.specs.Refusals.{Checked, good, refused, _>>=_, _>>_, refuse_when_}
 use Rattle.records.specs.Objects.{circle, slider, spinner, Kind, Object, bonus, kindBonus}
@@ -28,7 +29,7 @@ use Rattle.map_file.proofs.Reading.{On, on-start, on-step, on-stop, on-end, wit
 
 -- ---- one record: found where the order, the counts and the bonus admit it
 record-good : (r : List ℕ) (c : Counts) (m : ℕ) (x : Content) (n : ℕ) → 2 ≤ length r → wordAt r 0 2 ≡ m
-    → inOrder (c .last) (rankOf m) ≡ true → isFull c (rankOf m) ≡ false → bodyOf r m ≡ good (x, n) → c .bonus + contentBonus x ≤ 2147483647
+    → inOrder (c .last) (rankOf m) ≡ true → isFull c (rankOf m) ≡ false → bodyOf r m ≡ good (x, n) → c .bonus + contentBonus x ≤ maxBonus
     → recordOf r c ≡ good (x, n)
 unfolding recordOf _>>=_ _>>_ refuse_when_
 record-good r c m x n two mark order room body low = simp (le-ltb _ _ two, mark, order, room, body, le-ltb _ _ low)
@@ -93,7 +94,7 @@ in-order last rank a b c = simp (lt-leb rank 1 a, lt-ltb 0 last b, le-leb last r
 pub record Ready (f : File) (rank : ℕ) : Type 0 where
   pub begun : 0 < f .last
   pub early : f .last ≤ rank
-  pub low : bonus (f .map .objects) ≤ 2147483647
+  pub low : bonus (f .map .objects) ≤ maxBonus
 
 -- ---- breaks
 break-long : (b : BreakPeriod) → (length (breakBytes b) ≡ 18) × (0 < 18)
@@ -102,22 +103,22 @@ break-long b = (fields-length (breakFields b), lit< tt)
 
 record BreaksNext (f : File) (l : List BreakPeriod) : Type 0 where
   ready : Ready f 2
-  room : length (f .map .breaks) + length l ≤ 128
+  room : length (f .map .breaks) + length l ≤ maxBreaks
   within : Each BreakWithin l
 
-break-found : (f : File) (b : BreakPeriod) (rest : List ℕ) → Ready f 2 → length (f .map .breaks) < 128 → BreakWithin b → recordOf (breakBytes b ++ rest) (countsOf f) ≡ good (break b, 18)
+break-found : (f : File) (b : BreakPeriod) (rest : List ℕ) → Ready f 2 → length (f .map .breaks) < maxBreaks → BreakWithin b → recordOf (breakBytes b ++ rest) (countsOf f) ≡ good (break b, 18)
 unfolding breakBytes bodyOf countsOf
 break-found f b rest r room w =
     let long : length (breakBytes b) ≡ 18 = break-long b .0 in
     record-good (breakBytes b ++ rest) (countsOf f) BR (break b) 18 (two-bytes (breakBytes b) rest (omega (arith, long))) (mark-back BR _ rest (lit< tt))
-    (in-order (f .last) 2 (lit< tt) (r .begun) (r .early)) (lt-leb 128 (length (f .map .breaks)) room) (break-back b rest w) (let h = r .low in omega (arith, h))
+    (in-order (f .last) 2 (lit< tt) (r .begun) (r .early)) (lt-leb maxBreaks (length (f .map .breaks)) room) (break-back b rest w) (let h = r .low in omega (arith, h))
 
 breaks-step : (f : File) (b : BreakPeriod) (l : List BreakPeriod) (rest : List ℕ) → BreaksNext f (b ∷ l)
     → (recordOf (breakBytes b ++ rest) (countsOf f) ≡ good (break b, 18)) × BreaksNext (with-record f (break b, 18)) l
 unfolding with-record
 breaks-step f b l rest p = go (p .within)
   where
-    few : length (f .map .breaks) + suc (length l) ≤ 128
+    few : length (f .map .breaks) + suc (length l) ≤ maxBreaks
     few = p .room
 
     go : Each BreakWithin (b ∷ l) → (recordOf (breakBytes b ++ rest) (countsOf f) ≡ good (break b, 18)) × BreaksNext (with-record f (break b, 18)) l
@@ -203,19 +204,19 @@ object-back o rest w =
     let k = marked o rest w in
     ap (objectOf (objectBytes o ++ rest)) (k .there) ∙ k .back ∙ ap (λ (n : ℕ). good (object o, n)) (sym (object-long o .0))
 
-object-found : (f : File) (o : Object) (rest : List ℕ) → Ready f 3 → length (f .map .objects) < 8192 → bonus (f .map .objects) + kindBonus (o .kind) ≤ 2147483647 → ObjectWithin o
+object-found : (f : File) (o : Object) (rest : List ℕ) → Ready f 3 → length (f .map .objects) < maxObjects → bonus (f .map .objects) + kindBonus (o .kind) ≤ maxBonus → ObjectWithin o
     → recordOf (objectBytes o ++ rest) (countsOf f) ≡ good (object o, objectSize o)
 unfolding countsOf
 object-found f o rest r room low w =
     let k = marked o rest w in
     record-good (objectBytes o ++ rest) (countsOf f) (k .mark) (object o) (objectSize o) (two-bytes (objectBytes o) rest (object-two o)) (k .there)
-    (rw (k .rank) (in-order (f .last) 3 (lit< tt) (r .begun) (r .early))) (rw (k .rank) (lt-leb 8192 (length (f .map .objects)) room))
+    (rw (k .rank) (in-order (f .last) 3 (lit< tt) (r .begun) (r .early))) (rw (k .rank) (lt-leb maxObjects (length (f .map .objects)) room))
     (k .body ∙ k .back) low
 
 record ObjectsNext (f : File) (l : List Object) : Type 0 where
   ready : Ready f 3
-  room : length (f .map .objects) + length l ≤ 8192
-  low : bonus (f .map .objects) + bonus l ≤ 2147483647
+  room : length (f .map .objects) + length l ≤ maxObjects
+  low : bonus (f .map .objects) + bonus l ≤ maxBonus
   within : Each ObjectWithin l
 
 objects-step : (f : File) (o : Object) (l : List Object) (rest : List ℕ) → ObjectsNext f (o ∷ l)
@@ -223,14 +224,14 @@ objects-step : (f : File) (o : Object) (l : List Object) (rest : List ℕ) → O
 unfolding with-record bonus
 objects-step f o l rest p = go (p .within)
   where
-    few : length (f .map .objects) + suc (length l) ≤ 8192
+    few : length (f .map .objects) + suc (length l) ≤ maxObjects
     few = p .room
 
     go : Each ObjectWithin (o ∷ l) → (recordOf (objectBytes o ++ rest) (countsOf f) ≡ good (object o, objectSize o)) × ObjectsNext (with-record f (object o, objectSize o)) l
     go (one w ws) =
         let more = length-snoc (f .map .objects) o in
         let sum = bonus-snoc (f .map .objects) o in
-        let low : bonus (f .map .objects) + (kindBonus (o .kind) + bonus l) ≤ 2147483647 = p .low in (
+        let low : bonus (f .map .objects) + (kindBonus (o .kind) + bonus l) ≤ maxBonus = p .low in (
           object-found f o rest (p .ready) (omega (arith, few)) (omega (arith, low)) w,
           record {
             ready = record { begun = lit< tt; early = omega arith; low = omega (arith, sum, low) };
@@ -445,28 +446,28 @@ refused-behind m rest n w some bad =
 
 -- ---- number 7: a spinner that takes the bonus above its limit is refused at its own offset, whatever stands behind it
 record-over : (r : List ℕ) (c : Counts) (m : ℕ) (x : Content) (n : ℕ) → 2 ≤ length r → wordAt r 0 2 ≡ m
-    → inOrder (c .last) (rankOf m) ≡ true → isFull c (rankOf m) ≡ false → bodyOf r m ≡ good (x, n) → 2147483647 < c .bonus + contentBonus x
+    → inOrder (c .last) (rankOf m) ≡ true → isFull c (rankOf m) ≡ false → bodyOf r m ≡ good (x, n) → maxBonus < c .bonus + contentBonus x
     → recordOf r c ≡ refused 7
 unfolding recordOf _>>=_ _>>_ refuse_when_
 record-over r c m x n two mark order room body high = simp (le-ltb _ _ two, mark, order, room, body, lt-ltb _ _ high)
 
-object-over : (f : File) (o : Object) (rest : List ℕ) → Ready f 3 → length (f .map .objects) < 8192 → 2147483647 < bonus (f .map .objects) + kindBonus (o .kind) → ObjectWithin o
+object-over : (f : File) (o : Object) (rest : List ℕ) → Ready f 3 → length (f .map .objects) < maxObjects → maxBonus < bonus (f .map .objects) + kindBonus (o .kind) → ObjectWithin o
     → recordOf (objectBytes o ++ rest) (countsOf f) ≡ refused 7
 unfolding countsOf
 object-over f o rest r room high w =
     let k = marked o rest w in
     record-over (objectBytes o ++ rest) (countsOf f) (k .mark) (object o) (objectSize o) (two-bytes (objectBytes o) rest (object-two o)) (k .there)
-    (rw (k .rank) (in-order (f .last) 3 (lit< tt) (r .begun) (r .early))) (rw (k .rank) (lt-leb 8192 (length (f .map .objects)) room))
+    (rw (k .rank) (in-order (f .last) 3 (lit< tt) (r .begun) (r .early))) (rw (k .rank) (lt-leb maxObjects (length (f .map .objects)) room))
     (k .body ∙ k .back) high
 
-pub over-bonus : (m : Map) (o : Object) (rest : List ℕ) → MapWithin m → ObjectWithin o → length (m .objects) < 8192 → 2147483647 < bonus (m .objects) + kindBonus (o .kind)
+pub over-bonus : (m : Map) (o : Object) (rest : List ℕ) → MapWithin m → ObjectWithin o → length (m .objects) < maxObjects → maxBonus < bonus (m .objects) + kindBonus (o .kind)
     → RefusedBehind m 7 (mapFile m ++ (objectBytes o ++ rest))
 over-bonus m o rest w v room high =
     let two = two-bytes (objectBytes o) rest (object-two o) in
     refused-behind m (objectBytes o ++ rest) 7 w (omega (arith, two)) (λ f r e.
     object-over f o rest r
-    (subst (λ (n : Map). length (n .objects) < 8192) (sym e) room)
-    (subst (λ (n : Map). 2147483647 < bonus (n .objects) + kindBonus (o .kind)) (sym e) high) v)
+    (subst (λ (n : Map). length (n .objects) < maxObjects) (sym e) room)
+    (subst (λ (n : Map). maxBonus < bonus (n .objects) + kindBonus (o .kind)) (sym e) high) v)
 
 -- ---- a play that is put after the map: refused for a field of its own at its own offset, or the file's only play
 record-refused : (r : List ℕ) (c : Counts) (m n : ℕ) → 2 ≤ length r → wordAt r 0 2 ≡ m

@@ -6,7 +6,8 @@ use mathlib.Core.List.{List, [], _∷_}
 use lib.Dec.{T}
 use lib.ListN.{length}
 use lib.Ieee.{Float, Format, binary32, binary64, fits, ofBits, neg, lt, le}
-use Rattle.records.specs.Fields.{timeLimit}
+use Rattle.records.specs.Limits.{maxNested, maxBreaks, maxObjects, maxBonus}
+use Rattle.records.specs.Fields.{timeLimit, settingLimit, durationLimit, rateLimit}
 use Rattle.records.specs.Objects.{Item, Kind, circle, slider, spinner, Object, bonus}
 use Rattle.records.specs.Play.{flagsBad}
 use Rattle.map_file.specs.File.{Map}
@@ -30,11 +31,11 @@ IsTime x = Within binary64 (neg timeLimit) timeLimit x
 
 -- "three floats of 32 bits, each from 0 to 12"
 abbrev pub IsSetting : Float → Type 0
-IsSetting x = Within binary32 (ofBits binary32 0) (ofBits binary32 0x41400000) x
+IsSetting x = Within binary32 (ofBits binary32 0) settingLimit x
 
 -- "duration f64 from 0 to 3,600,000"
 abbrev pub IsDuration : Float → Type 0
-IsDuration x = Within binary64 (ofBits binary64 0) (ofBits binary64 0x414b774000000000) x
+IsDuration x = Within binary64 (ofBits binary64 0) durationLimit x
 
 -- what holds of each element
 pub data Each {A : Type 0} (P : A → Type 0) : List A → Type 0 where
@@ -53,7 +54,7 @@ pub record BreakWithin (b : BreakPeriod) : Type 0 where
 -- a slider has its tail and at most 999 nested items before it: "1,000 nested items pass"
 abbrev pub KindWithin : Kind → Type 0
 KindWithin circle = Unit
-KindWithin (slider is) = length is + 1 ≤ 1000
+KindWithin (slider is) = length is + 1 ≤ maxNested
 KindWithin (spinner d) = IsDuration d
 
 pub record ObjectWithin (o : Object) : Type 0 where
@@ -63,10 +64,10 @@ pub record ObjectWithin (o : Object) : Type 0 where
 pub record MapWithin (m : Map) : Type 0 where
   pub settings : SettingsWithin (m .settings)
   pub breaks : Each BreakWithin (m .breaks)
-  pub few-breaks : length (m .breaks) ≤ 128
+  pub few-breaks : length (m .breaks) ≤ maxBreaks
   pub objects : Each ObjectWithin (m .objects)
-  pub few-objects : length (m .objects) ≤ 8192
-  pub low-bonus : bonus (m .objects) ≤ 2147483647
+  pub few-objects : length (m .objects) ≤ maxObjects
+  pub low-bonus : bonus (m .objects) ≤ maxBonus
 
 -- ---- a play's fields, in the widths of its record
 pub record HitsWithin (h : OsuHitResults) : Type 0 where
@@ -99,7 +100,7 @@ pub record PlaySized (p : Play) : Type 0 where
 pub record ModsWithin (m : GameMods) : Type 0 where
   pub known : flagsBad (m .flags) ≡ false
   pub above : lt (ofBits binary64 0) (m .«clock_rate») ≡ true
-  pub below : le (m .«clock_rate») (ofBits binary64 0x4059000000000000) ≡ true
+  pub below : le (m .«clock_rate») rateLimit ≡ true
 
 pub record PlayWithin (p : Play) : Type 0 where
   pub sized : PlaySized p

@@ -9,6 +9,7 @@ use native.Mathlib.Nat.{mul-le-mul, mul-le-mul-left}
 use lib.Dec.{T}
 use lib.Ieee.{Float, ofBits, ofInt}
 use lib.ListN.{length, getD}
+use Rattle.records.specs.Limits.{maxGain, maxObjects, maxBonus, maxCombo, maxCombosBefore}
 use Rattle.numbers.specs.Floats.{whole}
 use Rattle.numbers.proofs.Bounds.{Upto, of-tests}
 use Rattle.spinner.specs.HalfSpins.{totalHalfSpins, requiredHalfSpins}
@@ -18,7 +19,7 @@ use Rattle.encoding.specs.Limits.{Each, none, one, IsDuration, KindWithin, Obje
 use Rattle.simulator.specs.Combo.{gain, gainBefore, combosBefore, firstNoSlider}
 use Rattle.simulator.proofs.Bonus.{legacy-hour, nested-hour}
 use Rattle.simulator.proofs.Sums.{items-count}
-use Rattle.entries.specs.Entry.{accuracyGain, standardisedGain, isCircle, isSlider, isSpinner, repeatsIn, ticksIn, spinnerScoreIn, total, entryOf, wordsOf, limitList, inLimits}
+use Rattle.entries.specs.Entry.{accuracyGain, standardisedGain, isCircle, isSlider, isSpinner, repeatsIn, ticksIn, spinnerScoreIn, total, entryOf, wordsOf, limitList, inLimits, entryWords}
 use Rattle.entries.proofs.Limits.{within-of, at-each}
 
 -- ---- sums over objects
@@ -41,7 +42,7 @@ total-against m n c v w (o ∷ os) (one x xs) h =
     omega (arith, first, rest)
 
 -- ---- what one object adds
-gain-most : (k : Kind) → KindWithin k → gain k ≤ 1001
+gain-most : (k : Kind) → KindWithin k → gain k ≤ maxGain
 gain-most circle h = omega arith
 gain-most (slider is) h = omega (arith, h)
 gain-most (spinner d) h = omega arith
@@ -66,12 +67,12 @@ spinner-most circle h = omega arith
 spinner-most (slider is) h = omega arith
 spinner-most (spinner d) h = omega arith
 
-repeats-most : (k : Kind) → KindWithin k → repeatsIn k ≤ 1001
+repeats-most : (k : Kind) → KindWithin k → repeatsIn k ≤ maxGain
 repeats-most circle h = omega arith
 repeats-most (slider is) h = let n = items-count is in omega (arith, h, n)
 repeats-most (spinner d) h = omega arith
 
-ticks-most : (k : Kind) → KindWithin k → ticksIn k ≤ 1001
+ticks-most : (k : Kind) → KindWithin k → ticksIn k ≤ maxGain
 ticks-most circle h = omega arith
 ticks-most (slider is) h = let n = items-count is in omega (arith, h, n)
 ticks-most (spinner d) h = omega arith
@@ -144,32 +145,32 @@ bonus-total [] = refl
 bonus-total (o ∷ os) = let e = bonus-total os in omega (arith, e)
 
 -- every word but the legacy bonus, for a map's bonus and one more object's
-pub words-within : (os : List Object) → Each ObjectWithin os → length os ≤ 8192 → bonus os ≤ 2147483647 + 62965100
-    → (i : ℕ) → i < 13 → i ≢ 5 → getD (wordsOf (entryOf os)) i 0 ≤ getD limitList i 0
+pub words-within : (os : List Object) → Each ObjectWithin os → length os ≤ maxObjects → bonus os ≤ maxBonus + 62965100
+    → (i : ℕ) → i < entryWords → i ≢ 5 → getD (wordsOf (entryOf os)) i 0 ≤ getD limitList i 0
 unfolding entryOf
 words-within os w few low =
-    let many : (c : ℕ) → c * length os ≤ c * 8192 = (λ c. mul-le-mul-left c few) in
-    let legacy : total kindBonus os ≤ 2147483647 + 62965100 = (let e = bonus-total os in omega (arith, e, low)) in
-    let combo : total gain os ≤ 8200192 = (let t = total-most gain 1001 os w gain-most in omega (arith, t, many 1001)) in
-    let before : combosBefore 0 os ≤ 137438953472 =
+    let many : (c : ℕ) → c * length os ≤ c * maxObjects = (λ c. mul-le-mul-left c few) in
+    let legacy : total kindBonus os ≤ maxBonus + 62965100 = (let e = bonus-total os in omega (arith, e, low)) in
+    let combo : total gain os ≤ maxCombo = (let t = total-most gain maxGain os w gain-most in omega (arith, t, many maxGain)) in
+    let before : combosBefore 0 os ≤ maxCombosBefore =
     (let b = before-most 0 os in let z : 0 + total gain os ≡ total gain os = omega arith in let d = rw z at b in let p = mul-le-mul combo few in omega (arith, d, p)) in
     let first = first-most os in
-    let accuracy : total accuracyGain os ≤ 2147483647 = (let t = total-most accuracyGain 30330 os w accuracy-most in omega (arith, t, many 30330)) in
-    let standardised : total standardisedGain os ≤ 2147483647 =
+    let accuracy : total accuracyGain os ≤ maxBonus = (let t = total-most accuracyGain 30330 os w accuracy-most in omega (arith, t, many 30330)) in
+    let standardised : total standardisedGain os ≤ maxBonus =
     (let t = total-against 10 1 0 standardisedGain kindBonus os w standardised-below in omega (arith, t, legacy)) in
-    let circles : total isCircle os ≤ 8192 = (let t = total-most isCircle 1 os w circle-most in omega (arith, t, few)) in
-    let sliders : total isSlider os ≤ 8192 = (let t = total-most isSlider 1 os w slider-most in omega (arith, t, few)) in
-    let spinners : total isSpinner os ≤ 8192 = (let t = total-most isSpinner 1 os w spinner-most in omega (arith, t, few)) in
-    let repeated : total repeatsIn os ≤ 8200192 = (let t = total-most repeatsIn 1001 os w repeats-most in omega (arith, t, many 1001)) in
-    let ticked : total ticksIn os ≤ 8200192 = (let t = total-most ticksIn 1001 os w ticks-most in omega (arith, t, many 1001)) in
-    let spun : total spinnerScoreIn os ≤ 2147483647 =
+    let circles : total isCircle os ≤ maxObjects = (let t = total-most isCircle 1 os w circle-most in omega (arith, t, few)) in
+    let sliders : total isSlider os ≤ maxObjects = (let t = total-most isSlider 1 os w slider-most in omega (arith, t, few)) in
+    let spinners : total isSpinner os ≤ maxObjects = (let t = total-most isSpinner 1 os w spinner-most in omega (arith, t, few)) in
+    let repeated : total repeatsIn os ≤ maxCombo = (let t = total-most repeatsIn maxGain os w repeats-most in omega (arith, t, many maxGain)) in
+    let ticked : total ticksIn os ≤ maxCombo = (let t = total-most ticksIn maxGain os w ticks-most in omega (arith, t, many maxGain)) in
+    let spun : total spinnerScoreIn os ≤ maxBonus =
     (let t = total-against 3 2 400 spinnerScoreIn kindBonus os w spinner-below in omega (arith, t, legacy, few)) in
     places few combo before first accuracy standardised circles sliders spinners repeated ticked spun
   where
-    places : length os ≤ 8192 → total gain os ≤ 8200192 → combosBefore 0 os ≤ 137438953472 → firstNoSlider os ≤ 1 → total accuracyGain os ≤ 2147483647
-        → total standardisedGain os ≤ 2147483647 → total isCircle os ≤ 8192 → total isSlider os ≤ 8192 → total isSpinner os ≤ 8192
-        → total repeatsIn os ≤ 8200192 → total ticksIn os ≤ 8200192 → total spinnerScoreIn os ≤ 2147483647
-        → (i : ℕ) → i < 13 → i ≢ 5 → getD (wordsOf (entryOf os)) i 0 ≤ getD limitList i 0
+    places : length os ≤ maxObjects → total gain os ≤ maxCombo → combosBefore 0 os ≤ maxCombosBefore → firstNoSlider os ≤ 1 → total accuracyGain os ≤ maxBonus
+        → total standardisedGain os ≤ maxBonus → total isCircle os ≤ maxObjects → total isSlider os ≤ maxObjects → total isSpinner os ≤ maxObjects
+        → total repeatsIn os ≤ maxCombo → total ticksIn os ≤ maxCombo → total spinnerScoreIn os ≤ maxBonus
+        → (i : ℕ) → i < entryWords → i ≢ 5 → getD (wordsOf (entryOf os)) i 0 ≤ getD limitList i 0
     places a b c d e g h j k l m n zero lt ne = a
     places a b c d e g h j k l m n (suc zero) lt ne = b
     places a b c d e g h j k l m n (suc (suc zero)) lt ne = c
@@ -185,8 +186,8 @@ words-within os w few low =
     places a b c d e g h j k l m n (suc (suc (suc (suc (suc (suc (suc (suc (suc (suc (suc (suc zero)))))))))))) lt ne = n
     places a b c d e g h j k l m n (suc (suc (suc (suc (suc (suc (suc (suc (suc (suc (suc (suc (suc i))))))))))))) lt ne = absurd (omega (arith, lt))
 
-pub entry-within : (os : List Object) → Each ObjectWithin os → length os ≤ 8192 → bonus os ≤ 2147483647 → inLimits (entryOf os) ≡ true
+pub entry-within : (os : List Object) → Each ObjectWithin os → length os ≤ maxObjects → bonus os ≤ maxBonus → inLimits (entryOf os) ≡ true
 unfolding entryOf
 entry-within os w few low =
-    let legacy : total kindBonus os ≤ 2147483647 = (let e = bonus-total os in omega (arith, e, low)) in
+    let legacy : total kindBonus os ≤ maxBonus = (let e = bonus-total os in omega (arith, e, low)) in
     within-of (entryOf os) (at-each 5 legacy (words-within os w few (omega (arith, low))))

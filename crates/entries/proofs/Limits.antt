@@ -10,7 +10,8 @@ use native.Mathlib.Decide.{ℕ-discrete}
 use lib.Dec.{leb, ltb, eqb, lit<, lit≤}
 use lib.ListN.{length, getD}
 use borrow.Author.Tests.{leb-true, le-leb}
-use Rattle.entries.specs.Entry.{none, joined, inLimits, allLe, wordsOf, limitList, SumOf}
+use Rattle.records.specs.Limits.{maxLevels, maxCombosBefore, maxCombo, maxObjects}
+use Rattle.entries.specs.Entry.{none, joined, inLimits, allLe, wordsOf, limitList, SumOf, entryWords}
 use Rattle.entries.specs.declared.entry.Entry.{Entry}
 use Rattle.records.proofs.Laws.{and-left, and-right}
 
@@ -32,16 +33,16 @@ all-le-of t (x ∷ xs) [] ht g h = absurd (not-suc-le-zero g)
 all-le-of t (x ∷ xs) (l ∷ ls) ht g h =
     all-le-of (t && leb x l) xs ls (ap (λ (y : Bool). y && leb x l) ht ∙ le-leb x l (h 0 (zero-lt-suc (length xs)))) (le-of-suc-le-suc g) (λ i k. h (suc i) (suc-le-suc k))
 
-pub word-le : (e : Entry) → inLimits e ≡ true → (i : ℕ) → i < 13 → getD (wordsOf e) i 0 ≤ getD limitList i 0
+pub word-le : (e : Entry) → inLimits e ≡ true → (i : ℕ) → i < entryWords → getD (wordsOf e) i 0 ≤ getD limitList i 0
 unfolding inLimits
 word-le e h = all-le true (wordsOf e) limitList h
 
-pub within-of : (e : Entry) → ((i : ℕ) → i < 13 → getD (wordsOf e) i 0 ≤ getD limitList i 0) → inLimits e ≡ true
+pub within-of : (e : Entry) → ((i : ℕ) → i < entryWords → getD (wordsOf e) i 0 ≤ getD limitList i 0) → inLimits e ≡ true
 unfolding inLimits
 within-of e h = all-le-of true (wordsOf e) limitList refl (lit≤ tt) h
 
 -- what holds of the word at place k, and of the others, holds of each
-pub at-each : {P : ℕ → Type 0} (k : ℕ) → P k → ((i : ℕ) → i < 13 → i ≢ k → P i) → (i : ℕ) → i < 13 → P i
+pub at-each : {P : ℕ → Type 0} (k : ℕ) → P k → ((i : ℕ) → i < entryWords → i ≢ k → P i) → (i : ℕ) → i < entryWords → P i
 at-each {P} k here other i lt = go (ℕ-discrete i k)
   where
     go : Dec (i ≡ k) → P i
@@ -58,8 +59,8 @@ most m (l ∷ ls) h zero = leb-true l m (and-left (leb l m) (allMost m ls) h)
 most m (l ∷ ls) h (suc i) = most m ls (and-right (leb l m) (allMost m ls) h) i
 
 -- no limit is above that of s
-limit-most : (i : ℕ) → getD limitList i 0 ≤ 137438953472
-limit-most = most 137438953472 limitList refl
+limit-most : (i : ℕ) → getD limitList i 0 ≤ maxCombosBefore
+limit-most = most maxCombosBefore limitList refl
 
 -- ---- the words of two neighbouring runs
 
@@ -68,7 +69,7 @@ module _ (a b : Entry) where
   more i = cond (eqb i 2) (a .combo * b .«object_count») 0
 
   -- each word but f is the sum of both, and s has the combo that the objects of b meet
-  pub word-joined : (i : ℕ) → i < 13 → i ≢ 3 → getD (wordsOf (joined a b)) i 0 ≡ getD (wordsOf a) i 0 + getD (wordsOf b) i 0 + more i
+  pub word-joined : (i : ℕ) → i < entryWords → i ≢ 3 → getD (wordsOf (joined a b)) i 0 ≡ getD (wordsOf a) i 0 + getD (wordsOf b) i 0 + more i
   unfolding joined
   word-joined zero h n = omega arith
   word-joined (suc zero) h n = omega arith
@@ -103,11 +104,11 @@ module _ (a b : Entry) where
 
 -- ---- a sum of a few entries
 
-pub sum-of-one : (e : Entry) → inLimits e ≡ true → SumOf 14 e
+pub sum-of-one : (e : Entry) → inLimits e ≡ true → SumOf (maxLevels + 1) e
 unfolding SumOf
 sum-of-one e h = (
   λ i lt. let x = word-le e h i lt in let m = limit-most i in omega (arith, x, m),
-  let k : e .combo ≤ 8200192 = word-le e h 1 (lit< tt) in omega (arith, k),
+  let k : e .combo ≤ maxCombo = word-le e h 1 (lit< tt) in omega (arith, k),
 )
 
 pub sum-of-none : SumOf 0 none
@@ -123,7 +124,7 @@ pub sum-of-joined : (n : ℕ) (a b : Entry) → n < 14 → SumOf n a → inLimit
 unfolding SumOf
 sum-of-joined n a b few ha hb = (at-each 3 first other, combo)
   where
-    product : a .combo * b .«object_count» ≤ n * 8200192 * 8192
+    product : a .combo * b .«object_count» ≤ n * maxCombo * maxObjects
     product = mul-le-mul (ha .1) (word-le b hb 0 (lit< tt))
 
     first : joined a b .«first_no_slider» ≤ suc n * 2199023255552
@@ -132,7 +133,7 @@ sum-of-joined n a b few ha hb = (at-each 3 first other, combo)
         let y : b .«first_no_slider» ≤ 1 = word-le b hb 3 (lit< tt) in
         first-most a b (suc n * 2199023255552) (omega (arith, x)) (omega (arith, y))
 
-    other : (i : ℕ) → i < 13 → i ≢ 3 → getD (wordsOf (joined a b)) i 0 ≤ suc n * 2199023255552
+    other : (i : ℕ) → i < entryWords → i ≢ 3 → getD (wordsOf (joined a b)) i 0 ≤ suc n * 2199023255552
     other i lt ne =
         let w = word-joined a b i lt ne in
         let x = ha .0 i lt in
@@ -142,15 +143,15 @@ sum-of-joined n a b few ha hb = (at-each 3 first other, combo)
         let q = product in
         omega (arith, w, x, y, m, p, q, few)
 
-    combo : joined a b .combo ≤ suc n * 8200192
+    combo : joined a b .combo ≤ suc n * maxCombo
     combo =
         let w : joined a b .combo ≡ a .combo + b .combo + 0 = word-joined a b 1 (lit< tt) (omega arith) in
         let x = ha .1 in
-        let y : b .combo ≤ 8200192 = word-le b hb 1 (lit< tt) in
+        let y : b .combo ≤ maxCombo = word-le b hb 1 (lit< tt) in
         omega (arith, w, x, y)
 
-module _ (a b : Entry) (ha : SumOf 14 a) (hb : inLimits b ≡ true) where
-  pub sum-fits : (i : ℕ) → i < 13 → getD (wordsOf a) i 0 + getD (wordsOf b) i 0 < 18446744073709551616
+module _ (a b : Entry) (ha : SumOf (maxLevels + 1) a) (hb : inLimits b ≡ true) where
+  pub sum-fits : (i : ℕ) → i < entryWords → getD (wordsOf a) i 0 + getD (wordsOf b) i 0 < 18446744073709551616
   unfolding SumOf
   sum-fits i h =
       let x = ha .0 i h in
@@ -158,7 +159,7 @@ module _ (a b : Entry) (ha : SumOf 14 a) (hb : inLimits b ≡ true) where
       let m = limit-most i in
       omega (arith, x, y, m)
 
-  pub product-fits : a .combo * b .«object_count» ≤ 114802688 * 8192
+  pub product-fits : a .combo * b .«object_count» ≤ 114802688 * maxObjects
   unfolding SumOf
   product-fits = mul-le-mul (ha .1) (word-le b hb 0 (lit< tt))
 
@@ -166,6 +167,6 @@ module _ (a b : Entry) (ha : SumOf 14 a) (hb : inLimits b ≡ true) where
   unfolding SumOf
   combos-fit =
       let x : a .«combos_before» ≤ 14 * 2199023255552 = ha .0 2 (lit< tt) in
-      let y : b .«combos_before» ≤ 137438953472 = word-le b hb 2 (lit< tt) in
+      let y : b .«combos_before» ≤ maxCombosBefore = word-le b hb 2 (lit< tt) in
       let p = product-fits in
       omega (arith, x, y, p)

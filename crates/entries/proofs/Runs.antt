@@ -11,11 +11,11 @@ use Rattle.spinner.specs.Bonus.{legacyOf, standardisedOf}
 use Rattle.simulator.specs.Nested.{spinnerScoreOf}
 use Rattle.simulator.specs.Combo.{gain, gainBefore, combosBefore, firstNoSlider}
 use Rattle.simulator.proofs.Sums.{items-count}
-use Rattle.entries.specs.Entry.{accuracyGain, standardisedGain, isCircle, isSlider, isSpinner, repeatsIn, ticksIn, spinnerScoreIn, total, entryOf, none, firstOf, joined, wordsOf, ownEntry}
+use Rattle.entries.specs.Entry.{accuracyGain, standardisedGain, isCircle, isSlider, isSpinner, repeatsIn, ticksIn, spinnerScoreIn, total, entryOf, none, firstOf, joined, wordsOf, ownEntry, entryWords}
 use Rattle.entries.specs.declared.entry.Entry.{Entry}
 
 -- two entries whose words agree
-pub entry-same : (v w : Entry) → ((i : ℕ) → i < 13 → getD (wordsOf v) i 0 ≡ getD (wordsOf w) i 0) → v ≡ w
+pub entry-same : (v w : Entry) → ((i : ℕ) → i < entryWords → getD (wordsOf v) i 0 ≡ getD (wordsOf w) i 0) → v ≡ w
 entry-same v w h =
     let h0 : v .«object_count» ≡ w .«object_count» = h 0 (omega arith) in
     let h1 : v .combo ≡ w .combo = h 1 (omega arith) in

@@ -5,6 +5,7 @@ use mathlib.Core.Bool.{Bool, true, false, _||_}
 use native.Mathlib.Omega.{arith}
 use borrow.Author.Tests.{ltb-false, le-ltb}
 use lib.Dec.{ltb}
+use Rattle.records.specs.Limits.{maxObjects}
 use Rattle.simulator.specs.Limits.{Bounded, Counted}
 use Rattle.entries.specs.Entry.{inLimits}
 use Rattle.entries.specs.Scores.{unsound, stateIn, countsIn}
@@ -35,7 +36,7 @@ state-bounded e h =
     let first = word-le e h 3 (omega arith) in
     record { combo = combo; points = omega (arith, before, first) }
 
-pub counts-bounded : (e : Entry) → inLimits e ≡ true → Counted 8192 (countsIn e)
+pub counts-bounded : (e : Entry) → inLimits e ≡ true → Counted maxObjects (countsIn e)
 counts-bounded e h =
     let spun = word-le e h 12 (omega arith) in
     record {

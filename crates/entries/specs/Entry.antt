@@ -4,6 +4,7 @@ use mathlib.Core.Bool.{Bool, true, false, cond, _&&_}
 use mathlib.Core.List.{List, [], _∷_}
 use lib.Dec.{leb, ltb}
 use lib.ListN.{length, getD}
+use Rattle.records.specs.Limits.{maxObjects, maxCombo, maxBonus, maxCombosBefore}
 use Rattle.spinner.specs.Bonus.{legacyOf, standardisedOf}
 use Rattle.records.specs.Objects.{Object, Kind, circle, slider, spinner, repeats, ticks, kindBonus}
 use Rattle.records.specs.declared.hit_object.Slider.{Slider}
@@ -13,6 +14,14 @@ use Rattle.records.specs.declared.hit_object.HitObjectKind.the-variants as kind
 use Rattle.simulator.specs.Combo.{gain, combosBefore, firstNoSlider}
 use Rattle.simulator.specs.Nested.{spinnerScoreOf}
 use Rattle.entries.specs.declared.entry.Entry.{Entry}
+
+-- "entries of 13 u64 words"
+abbrev pub entryWords : ℕ
+entryWords = 13
+
+-- "26 × C words": two entries for each place
+abbrev pub placeWords : ℕ
+placeWords = 2 * entryWords
 
 -- ---- what one object adds to a word
 -- "300 accuracy"; "A slider first adds 30 accuracy .. for its head, 30 .. per repeat and tail, 10 .. per tick"
@@ -140,7 +149,7 @@ wordsOf v =
 
 -- "Limits: q, circles, sliders, spinners 8,192; k, repeats, ticks 8,200,192; s 137,438,953,472; f 1; the others 2,147,483,647"
 abbrev pub limitList : List ℕ
-limitList = 8192 ∷ 8200192 ∷ 137438953472 ∷ 1 ∷ 2147483647 ∷ 2147483647 ∷ 2147483647 ∷ 8192 ∷ 8192 ∷ 8192 ∷ 8200192 ∷ 8200192 ∷ 2147483647 ∷ []
+limitList = maxObjects ∷ maxCombo ∷ maxCombosBefore ∷ 1 ∷ maxBonus ∷ maxBonus ∷ maxBonus ∷ maxObjects ∷ maxObjects ∷ maxObjects ∷ maxCombo ∷ maxCombo ∷ maxBonus ∷ []
 
 -- t, and each number at most its limit. Grouped to the left, as a chain of `&` is
 abbrev pub allLe : Bool → List ℕ → List ℕ → Bool
@@ -153,7 +162,7 @@ inLimits e = allLe true (wordsOf e) limitList
 
 -- what n entries within the limits add up to, for n up to 14
 unfoldable pub SumOf : ℕ → Entry → Type 0
-SumOf n e = ((i : ℕ) → i < 13 → getD (wordsOf e) i 0 ≤ n * 2199023255552) × (e .combo ≤ n * 8200192)
+SumOf n e = ((i : ℕ) → i < entryWords → getD (wordsOf e) i 0 ≤ n * 2199023255552) × (e .combo ≤ n * maxCombo)
 
 -- ---- what the code makes of one object
 abbrev pub circleEntry : Entry

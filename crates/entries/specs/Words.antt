@@ -2,24 +2,24 @@
 use Prim.Native.Nat.{ℕ, zero, suc, _+_, _*_}
 use mathlib.Core.List.{List, [], _∷_, _++_}
 use lib.ListN.{getD, set}
-use Rattle.entries.specs.Entry.{wordsOf}
+use Rattle.entries.specs.Entry.{wordsOf, entryWords}
 use Rattle.entries.specs.declared.entry.Entry.{Entry}
 
 unfoldable pub entryAt : List ℕ → ℕ → Entry
 entryAt b e = record {
-  «object_count» = getD b (e * 13) 0;
-  combo = getD b (e * 13 + 1) 0;
-  «combos_before» = getD b (e * 13 + 2) 0;
-  «first_no_slider» = getD b (e * 13 + 3) 0;
-  «accuracy_score» = getD b (e * 13 + 4) 0;
-  «legacy_bonus_score» = getD b (e * 13 + 5) 0;
-  «standardised_bonus_score» = getD b (e * 13 + 6) 0;
-  «n_circles» = getD b (e * 13 + 7) 0;
-  «n_sliders» = getD b (e * 13 + 8) 0;
-  «n_spinners» = getD b (e * 13 + 9) 0;
-  «n_repeats» = getD b (e * 13 + 10) 0;
-  «n_ticks» = getD b (e * 13 + 11) 0;
-  «spinner_score» = getD b (e * 13 + 12) 0;
+  «object_count» = getD b (e * entryWords) 0;
+  combo = getD b (e * entryWords + 1) 0;
+  «combos_before» = getD b (e * entryWords + 2) 0;
+  «first_no_slider» = getD b (e * entryWords + 3) 0;
+  «accuracy_score» = getD b (e * entryWords + 4) 0;
+  «legacy_bonus_score» = getD b (e * entryWords + 5) 0;
+  «standardised_bonus_score» = getD b (e * entryWords + 6) 0;
+  «n_circles» = getD b (e * entryWords + 7) 0;
+  «n_sliders» = getD b (e * entryWords + 8) 0;
+  «n_spinners» = getD b (e * entryWords + 9) 0;
+  «n_repeats» = getD b (e * entryWords + 10) 0;
+  «n_ticks» = getD b (e * entryWords + 11) 0;
+  «spinner_score» = getD b (e * entryWords + 12) 0;
 }
 
 -- the numbers vs stored from at + k on
@@ -45,7 +45,7 @@ restOf v =
     ∷ []
 
 unfoldable pub putEntry : List ℕ → ℕ → Entry → List ℕ
-putEntry b e v = puts (set b (e * 13) (v .«object_count»)) (e * 13) 1 (restOf v)
+putEntry b e v = puts (set b (e * entryWords) (v .«object_count»)) (e * entryWords) 1 (restOf v)
 
 -- the words of n entries from x on
 unfoldable pub wordsFrom : (ℕ → Entry) → ℕ → ℕ → List ℕ

@@ -7,6 +7,7 @@ use simulator::legacy_score::calculate_spinner_score;
 ghost use mathlib.Core.Path.{_≡_};
 ghost use mathlib.Core.Bool.{true};
 ghost use Prim.Native.Nat.{_+_, _≤_};
+ghost use Rattle.records.specs.Limits.{maxLevels, maxNested};
 ghost use Rattle.simulator.specs.Limits.{nestedCount};
 ghost use Rattle.entries.specs.Entry.{none, joined, firstOf, inLimits, SumOf, circleEntry, sliderEntry, spinnerEntry, ownEntry};
 
@@ -37,15 +38,18 @@ fn first(count: u64, a: u64, b: u64) -> u64
 impl Entry {
     pub const WORDS: usize = 13;
 
-    pub const MAX_COUNT: u64 = 8192;
+    // Two entries for each place of a board.
+    pub const PLACE_WORDS: usize = 2 * Entry::WORDS;
 
-    pub const MAX_COMBO: u64 = 8200192;
+    pub const MAX_COUNT: u64 = HitObject::MAX_COUNT;
+
+    pub const MAX_COMBO: u64 = HitObject::MAX_COUNT * (Slider::MAX_NESTED + 1);
 
     pub const MAX_COMBOS_BEFORE: u64 = 137438953472;
 
     pub const MAX_FIRST: u64 = 1;
 
-    pub const MAX_SCORE: u64 = 2147483647;
+    pub const MAX_SCORE: u64 = HitObject::MAX_BONUS;
 
     // That of no object.
     pub fn new() -> Self
@@ -82,7 +86,7 @@ impl Entry {
     }
 
     fn slider(slider: Slider) -> Self
-        requires { ⌜ slider .repeats + slider .ticks + 1 ≤ 1000 ⌝ }
+        requires { ⌜ slider .repeats + slider .ticks + 1 ≤ maxNested ⌝ }
         ensures { λ r. ⌜ r ≡ sliderEntry slider ⌝ }
     {
         let combo = slider.repeats + slider.ticks + 2;
@@ -117,7 +121,7 @@ impl Entry {
 
     // That of one object.
     pub fn own(object: HitObject) -> Self
-        requires { ⌜ nestedCount (object .kind) ≤ 1000 ⌝ }
+        requires { ⌜ nestedCount (object .kind) ≤ maxNested ⌝ }
         ensures { λ r. ⌜ r ≡ ownEntry (object .kind) ⌝ }
     {
         let kind = object.kind;
@@ -149,7 +153,7 @@ impl Entry {
 
     // That of the objects of self, then those of b. Sums of a few entries leave room, so that they can be checked later.
     pub fn join(self, b: Entry) -> Self
-        requires { ⌜ SumOf 14 self × (inLimits b ≡ true) ⌝ }
+        requires { ⌜ SumOf (maxLevels + 1) self × (inLimits b ≡ true) ⌝ }
         ensures { λ r. ⌜ r ≡ joined self b ⌝ }
     {
         Entry {

@@ -3,10 +3,11 @@ use crate::entry::Entry;
 ghost use mathlib.Core.Path.{_≡_};
 ghost use Prim.Native.Nat.{_+_, _*_, _≤_};
 ghost use lib.ListN.{length};
+ghost use Rattle.entries.specs.Entry.{entryWords};
 ghost use Rattle.entries.specs.Words.{entryAt, putEntry};
 
 pub fn load(b: &[u64], e: usize) -> Entry
-    requires { ⌜ e * 13 + 13 ≤ length (now b) ⌝ }
+    requires { ⌜ e * entryWords + entryWords ≤ length (now b) ⌝ }
     ensures { λ r. ⌜ r ≡ entryAt (now (b .entry)) e ⌝ }
 {
     let at = e * Entry::WORDS;
@@ -28,7 +29,7 @@ pub fn load(b: &[u64], e: usize) -> Entry
 }
 
 pub fn store(b: &mut [u64], e: usize, v: Entry)
-    requires { ⌜ e * 13 + 13 ≤ length (now b) ⌝ }
+    requires { ⌜ e * entryWords + entryWords ≤ length (now b) ⌝ }
     ensures { λ _. ⌜ now (b .exit) ≡ putEntry (now (b .entry)) e v ⌝ }
 {
     let at = e * Entry::WORDS;

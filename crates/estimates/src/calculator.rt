@@ -1,7 +1,6 @@
 // Of `OsuPerformanceCalculator`: the combo-based estimate and the effective miss count before its relax part.
 use crate::score_state::accuracy;
 use crate::score_state::large_ticks;
-use miss_calc::counts::monus;
 use miss_calc::counts::total_hits;
 use miss_calc::counts::total_imperfect_hits;
 use miss_calc::legacy_score_miss_calc::MissCount;
@@ -10,6 +9,7 @@ use miss_calc::legacy_score_miss_calc::cap_slider_breaks;
 use miss_calc::legacy_score_miss_calc::full_combo_threshold;
 use numbers::minmax::max;
 use numbers::minmax::min;
+use numbers::naturals::monus;
 use numbers::rounding::float;
 use records::play::OsuHitResults;
 use records::play::OsuScoreOrigin;

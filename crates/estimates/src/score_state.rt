@@ -1,6 +1,6 @@
 // `OsuHitResults::accuracy`.
-use miss_calc::counts::least;
 use miss_calc::counts::total_hits;
+use numbers::naturals::least;
 use numbers::rounding::float;
 use records::play::OsuHitResults;
 use records::play::OsuScoreOrigin;

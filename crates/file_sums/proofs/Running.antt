@@ -8,6 +8,7 @@ use native.Mathlib.Omega.{arith}
 use borrow.Author.Tests.{eqb-true, ltb-true, leb-true, le-ltb, ne-eqb}
 use lib.Dec.{eqb, ltb, leb}
 use lib.ListN.{length, drop}
+use Rattle.records.specs.Limits.{maxBonus, maxObjects}
 use Rattle.records.specs.Objects.{objectView, kindView}
 use Rattle.records.specs.Refusals.{good, refused, pick}
 use Rattle.records.specs.Records.{Found, contentView}
@@ -44,18 +45,18 @@ pub record Running (s : List ℕ) (p : ℕ) (reader : Reader) (sums : Sums) (t :
 record Free (c : Counts) : Type 0 where
   third : c .last ≡ 3
   some : 0 < c .objects
-  low : c .bonus ≤ 2147483647
+  low : c .bonus ≤ maxBonus
 
 free : (c : Counts) → mayRun c ≡ true → Free c
 free c e = go (eqb (c .last) 3) (ltb 0 (c .objects)) refl refl e
   where
-    go : (a b : Bool) → eqb (c .last) 3 ≡ a → ltb 0 (c .objects) ≡ b → pick a (pick b (leb (c .bonus) 2147483647) false) false ≡ true → Free c
-    go true true p q e = record { third = eqb-true (c .last) 3 p; some = ltb-true 0 (c .objects) q; low = leb-true (c .bonus) 2147483647 e }
+    go : (a b : Bool) → eqb (c .last) 3 ≡ a → ltb 0 (c .objects) ≡ b → pick a (pick b (leb (c .bonus) maxBonus) false) false ≡ true → Free c
+    go true true p q e = record { third = eqb-true (c .last) 3 p; some = ltb-true 0 (c .objects) q; low = leb-true (c .bonus) maxBonus e }
     go true false p q e = let z : _≡_ {A = ℕ} 0 1 = cc in absurd (omega arith)
     go false b p q e = let z : _≡_ {A = ℕ} 0 1 = cc in absurd (omega arith)
 
 module _ (s : List ℕ) (p : ℕ) (reader : Reader) (sums : Sums) where
-  pub running-start : Within (reader .counts .objects) (sums .score) → reader .counts .objects ≤ 8192 → mayRun (reader .counts) ≡ true → Running s p reader sums (tallyFrom reader sums)
+  pub running-start : Within (reader .counts .objects) (sums .score) → reader .counts .objects ≤ maxObjects → mayRun (reader .counts) ≡ true → Running s p reader sums (tallyFrom reader sums)
   running-start w few e =
       let f = free (reader .counts) e in
       let at : readerIn reader (tallyFrom reader sums) ≡ reader = rw (sym (f .third)) in
@@ -83,7 +84,7 @@ module _ (s : List ℕ) (p : ℕ) (reader : Reader) (sums : Sums) where
   pub running-counts : (t u : Tally) → TakesNext s t (tallied.Next u) → u .objects ≡ t .objects + 1
   running-counts t u n = ap (λ (x : Tally). x .objects) (n .1 .same) ∙ counts-one t (n .1 .o .start) (n .1 .size) (kindView (n .1 .o .kind))
 
-  pub running-step : (t u : Tally) → Running s p reader sums t → t .objects < min p 8192 → TakesNext s t (tallied.Next u) → Running s p reader sums u
+  pub running-step : (t u : Tally) → Running s p reader sums t → t .objects < min p maxObjects → TakesNext s t (tallied.Next u) → Running s p reader sums u
   running-step t u k h n =
       let o = n .1 .o in
       let kd = kindView (o .kind) in
@@ -127,7 +128,7 @@ module _ {s : List ℕ} {p : ℕ} {reader : Reader} {sums : Sums} (k : Summing s
   unfolding sumsOf
   ready-nested = subst (λ (n : ℕ). Counted n (sums .nested)) (sym same-count) (subst (λ (x : Sums). Counted (length (k .file .map .objects)) (x .nested)) (sym (k .same)) (passed-counted p (length (k .file .map .objects)) (k .file .map .objects) (omega arith) (k .count) (k .few)))
 
-  ready-room : reader .counts .objects ≤ 8192
+  ready-room : reader .counts .objects ≤ maxObjects
   ready-room = omega (arith, same-count, k .count)
 
   pub summing-ready : Ready reader sums

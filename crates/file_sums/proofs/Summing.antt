@@ -6,6 +6,7 @@ use native.Mathlib.Omega.{arith}
 use borrow.Author.Tests.{eq-eqb, ne-eqb}
 use lib.Dec.{eqb, eqb·suc-zero}
 use lib.ListN.{length, take, drop, length-take}
+use Rattle.records.specs.Limits.{maxObjects}
 use Rattle.numbers.specs.Words.{wordAt}
 use Rattle.records.specs.Objects.{Object, Kind, circle, slider, spinner, kindView, objectView}
 use Rattle.records.specs.Records.{Content, header, break, object, play, contentView, headerOf, breakOf, playOf, objectOf}
@@ -60,15 +61,15 @@ pub record Summing (s : List ℕ) (p : ℕ) (reader : Reader) (sums : Sums) : Ty
   pub kept : Kept s file reader
   pub standing : Standing s file
   pub few : Each Few (file .map .objects)
-  pub count : length (file .map .objects) ≤ 8192
+  pub count : length (file .map .objects) ≤ maxObjects
   pub same : sums ≡ sumsOf p (file .map .objects)
 
 pub summing-start : (s : List ℕ) (p : ℕ) → Summing s p freshOf (sumsOf p [])
 summing-start s p =
     record { file = file·of.fresh; kept = kept-start s; standing = standing-start s; few = none; count = omega arith; same = refl }
 
-objects-with : (f : File) (x : Content) (n : ℕ) → FewIn x → Fits (countsOf f) (contentView x) → Each Few (f .map .objects) → length (f .map .objects) ≤ 8192
-    → Each Few (with-record f (x, n) .map .objects) × (length (with-record f (x, n) .map .objects) ≤ 8192)
+objects-with : (f : File) (x : Content) (n : ℕ) → FewIn x → Fits (countsOf f) (contentView x) → Each Few (f .map .objects) → length (f .map .objects) ≤ maxObjects
+    → Each Few (with-record f (x, n) .map .objects) × (length (with-record f (x, n) .map .objects) ≤ maxObjects)
 unfolding with-record countsOf
 objects-with f (header t) n h e few most = (few, most)
 objects-with f (break b) n h e few most = (few, most)
@@ -91,15 +92,15 @@ module _ {s : List ℕ} {p : ℕ} {reader : Reader} {sums : Sums} (k : Summing s
   room-for (header t) h e = tt
   room-for (break b) h e = tt
   room-for (object o) h e =
-      let under : length (f .map .objects) ≤ 8191 = omega (arith, e .0) in
+      let under : length (f .map .objects) ≤ (maxObjects - 1) = omega (arith, e .0) in
       rw (k .same)
-      (passed-within p 8191 (f .map .objects) under (omega arith) (k .few), passed-counted p 8191 (f .map .objects) under (omega arith) (k .few), h)
+      (passed-within p (maxObjects - 1) (f .map .objects) under (omega arith) (k .few), passed-counted p (maxObjects - 1) (f .map .objects) under (omega arith) (k .few), h)
   room-for (play q) h e = tt
 
   -- the sums with it, and the file with it
   with-it : (x : Content) (n : ℕ) → FewIn x → Fits (countsOf f) (contentView x)
       → Each Few (with-record f (x, n) .map .objects)
-      × (length (with-record f (x, n) .map .objects) ≤ 8192)
+      × (length (with-record f (x, n) .map .objects) ≤ maxObjects)
       × (withRecord p (reader .counts .objects) sums (contentView x) ≡ sumsOf p (with-record f (x, n) .map .objects))
   unfolding with-record countsOf
   with-it (header t) n h e = (k .few, k .count, k .same)
@@ -164,8 +165,8 @@ module _ {s : List ℕ} {p : ℕ} {reader : Reader} {sums : Sums} (k : Summing s
   complete = (
     subst SettingsWithin (sym (sees .settings)) (limits .settings),
     omega (arith, sees .breaks, limits .few-breaks),
-    subst (λ (x : Sums). Within 8192 (x .score)) (sym (k .same)) (passed-within p 8192 (g .map .objects) (k .count) (omega arith) (k .few)),
-    subst (λ (x : Sums). Counted 8192 (x .nested)) (sym (k .same)) (passed-counted p 8192 (g .map .objects) (k .count) (omega arith) (k .few)),
+    subst (λ (x : Sums). Within maxObjects (x .score)) (sym (k .same)) (passed-within p maxObjects (g .map .objects) (k .count) (omega arith) (k .few)),
+    subst (λ (x : Sums). Counted maxObjects (x .nested)) (sym (k .same)) (passed-counted p maxObjects (g .map .objects) (k .count) (omega arith) (k .few)),
   )
 
   drain-is : drainIn s (reader .counts .breaks) (reader .counts .objects) sums ≡ drainAt (g .map .breaks) (g .map .objects) p
@@ -217,7 +218,7 @@ module _ {s : List ℕ} {p : ℕ} {reader : Reader} {sums : Sums} (k : Summing s
 pub record Facts (s : List ℕ) (f : File) : Type 0 where
   pub standing : Standing s f
   pub few : Each Few (f .map .objects)
-  pub count : length (f .map .objects) ≤ 8192
+  pub count : length (f .map .objects) ≤ maxObjects
 
 pub facts : (s : List ℕ) (f : File) → Chain s f → Facts s f
 facts s f start = record { standing = standing-start s; few = none; count = omega arith }

@@ -9,6 +9,7 @@ use borrow.Author.Tests.{lt-ltb, le-ltb, lt-leb, ne-eqb, eqb-true}
 use lib.Dec.{eqb}
 use lib.ListN.{length, drop, length-drop}
 use lib.Ieee.{Float}
+use Rattle.records.specs.Limits.{maxNested, maxBonus, maxObjects}
 use Rattle.numbers.specs.Words.{wordAt}
 use Rattle.records.specs.Refusals.{good, refused, _>>=_, _>>_, refuse_when_}
 use Rattle.records.specs.Objects.{Object, Kind, circle, slider, spinner, kindView, objectView, kindBonus}
@@ -75,10 +76,10 @@ module _ (r : List ℕ) (m : ℕ) (item : Record) (n : ℕ) (e : read.Good item 
     this-one : Named (objectOf r m) o n
     this-one = named (objectOf r m) o n (ap (λ (x : Record). read.Good x n) (sym i) ∙ e)
 
-    few : nestedCount (o .kind) ≤ 1000
-    few = subst (λ (x : HitObject). nestedCount (x .kind) ≤ 1000) (this-one .view) (all-out (subst (All (λ f. FewIn (f .0))) (this-one .is) (object-few r m)))
+    few : nestedCount (o .kind) ≤ maxNested
+    few = subst (λ (x : HitObject). nestedCount (x .kind) ≤ maxNested) (this-one .view) (all-out (subst (All (λ f. FewIn (f .0))) (this-one .is) (object-few r m)))
 
-    as-took : (t u : Tally) → t .bonus + kindBonusIn (o .kind) ≤ 2147483647 → u ≡ tallyWith t (o .«start_time») n (o .kind) → Took r m t u
+    as-took : (t u : Tally) → t .bonus + kindBonusIn (o .kind) ≤ maxBonus → u ≡ tallyWith t (o .«start_time») n (o .kind) → Took r m t u
     as-took t u h q = record {
       o = this-one .this;
       size = n;
@@ -88,11 +89,11 @@ module _ (r : List ℕ) (m : ℕ) (item : Record) (n : ℕ) (e : read.Good item 
     }
 
     module _ (kd : HitObjectKind) (j : o .kind ≡ kd) where
-      pub read-few : nestedCount kd ≤ 1000
-      read-few = subst (λ (x : HitObjectKind). nestedCount x ≤ 1000) j few
+      pub read-few : nestedCount kd ≤ maxNested
+      read-few = subst (λ (x : HitObjectKind). nestedCount x ≤ maxNested) j few
 
-      pub took : (t u : Tally) → t .bonus + kindBonusIn kd ≤ 2147483647 → u ≡ tallyWith t (o .«start_time») n kd → Took r m t u
-      took t u h q = as-took t u (subst (λ (x : HitObjectKind). t .bonus + kindBonusIn x ≤ 2147483647) (sym j) h) (q ∙ ap (tallyWith t (o .«start_time») n) (sym j))
+      pub took : (t u : Tally) → t .bonus + kindBonusIn kd ≤ maxBonus → u ≡ tallyWith t (o .«start_time») n kd → Took r m t u
+      took t u h q = as-took t u (subst (λ (x : HitObjectKind). t .bonus + kindBonusIn x ≤ maxBonus) (sym j) h) (q ∙ ap (tallyWith t (o .«start_time») n) (sym j))
 
     pub takes-spinner : (t : Tally) (d : Spinner) → o .kind ≡ kind.Spinner d → (x : Tallied) → Spins t (d .duration) (o .«start_time») n x → Takes r m t x
     takes-spinner t d j tallied.Other h = tt
@@ -123,7 +124,7 @@ third r m f e = go (eqb m CI) (eqb m SL) (eqb m SP) refl refl refl
     go false false true p q w = at SP (record { place = refl; body = refl }) w
     go false false false p q w = let z = simp (p, q, w) at e in never (cc)
 
-module _ (s : List ℕ) (reader : Reader) (t u : Tally) (two : t .at + 2 ≤ length s) (room : t .objects < 8192) (k : Took (drop (t .at) s) (wordAt (drop (t .at) s) 0 2) t u) where
+module _ (s : List ℕ) (reader : Reader) (t u : Tally) (two : t .at + 2 ≤ length s) (room : t .objects < maxObjects) (k : Took (drop (t .at) s) (wordAt (drop (t .at) s) 0 2) t u) where
   abbrev r : List ℕ
   r = drop (t .at) s
 
@@ -139,7 +140,7 @@ module _ (s : List ℕ) (reader : Reader) (t u : Tally) (two : t .at + 2 ≤ len
       let is = third r m (object o, k .size) (k .found) in
       let long : 2 ≤ length r = simp length-drop (omega (arith, two)) in
       let here : bodyOf r m ≡ good (object o, k .size) = is .body ∙ k .found in
-      simp (le-ltb (length r) 2 long, is .place, lt-leb 8192 (t .objects) room, here, le-ltb 2147483647 _ (k .fits))
+      simp (le-ltb (length r) 2 long, is .place, lt-leb maxObjects (t .objects) room, here, le-ltb maxBonus _ (k .fits))
 
   no-more : t .bonus ≡ t .bonus + 0
   no-more = omega arith
@@ -197,14 +198,14 @@ module _ (reader : Reader) (sums : Sums) (t : Tally) (a : Float) (n p : ℕ) (be
   sums-go kd = simp (lt-ltb (t .objects) p passed, ne-eqb (t .objects) 0 (λ z. omega (arith, z, some))) (sums-same (score-goes kd) (nested-goes kd) (first-goes kd) (last-goes kd))
 
 -- ---- the counters stay small
-pub took-few : {r : List ℕ} {m : ℕ} {t u : Tally} (k : Took r m t u) → nestedCount (kindView (k .o .kind)) ≤ 1000
+pub took-few : {r : List ℕ} {m : ℕ} {t u : Tally} (k : Took r m t u) → nestedCount (kindView (k .o .kind)) ≤ maxNested
 took-few {r} {m} k = all-out (subst (All (λ f. FewIn (f .0))) (k .found) (object-few r m))
 
-pub took-fits : {r : List ℕ} {m : ℕ} {t u : Tally} (k : Took r m t u) → t .bonus + kindBonusIn (kindView (k .o .kind)) ≤ 2147483647
+pub took-fits : {r : List ℕ} {m : ℕ} {t u : Tally} (k : Took r m t u) → t .bonus + kindBonusIn (kindView (k .o .kind)) ≤ maxBonus
 took-fits k = let b = kept (k .o .kind) in let f = k .fits in omega (arith, b, f)
 
-module _ (t : Tally) (a : Float) (n : ℕ) (w : Small t) (room : t .objects < 8192) where
-  pub small-step : (kd : HitObjectKind) → nestedCount kd ≤ 1000 → t .bonus + kindBonusIn kd ≤ 2147483647 → Small (tallyWith t a n kd)
+module _ (t : Tally) (a : Float) (n : ℕ) (w : Small t) (room : t .objects < maxObjects) where
+  pub small-step : (kd : HitObjectKind) → nestedCount kd ≤ maxNested → t .bonus + kindBonusIn kd ≤ maxBonus → Small (tallyWith t a n kd)
   small-step kind.Circle g h = record {
     objects = omega (arith, room);
     bonus = w .bonus;

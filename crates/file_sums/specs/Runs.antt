@@ -6,12 +6,13 @@ use mathlib.Core.List.{List}
 use lib.Dec.{eqb, ltb, leb}
 use lib.Ieee.{Float}
 use lib.ListN.{length, drop}
+use Rattle.records.specs.Limits.{maxObjects, maxBonus, maxGain, maxCombo}
 use Rattle.numbers.specs.Words.{wordAt}
 use Rattle.spinner.specs.Bonus.{legacyOf, standardisedOf}
 use Rattle.records.specs.Refusals.{good, pick}
 use Rattle.records.specs.Objects.{Object, objectView, kindBonus}
 use Rattle.records.specs.Records.{object, objectOf}
-use Rattle.map_file.specs.Order.{recordOf}
+use Rattle.map_file.specs.Order.{recordOf, objectRank}
 use Rattle.map_file.specs.View.{stepOf}
 use Rattle.map_file.specs.declared.file.Counts.{Counts}
 use Rattle.map_file.specs.declared.file.Reader.{Reader}
@@ -42,7 +43,7 @@ pub data Steps (s : List ℕ) (p : ℕ) (reader : Reader) (sums : Sums) : Reader
 -- there is room in the sums for the objects that are left
 abbrev pub Ready : Reader → Sums → Type 0
 Ready reader sums =
-    Within (reader .counts .objects) (sums .score) × Counted (reader .counts .objects) (sums .nested) × (reader .counts .objects ≤ 8192)
+    Within (reader .counts .objects) (sums .score) × Counted (reader .counts .objects) (sums .nested) × (reader .counts .objects ≤ maxObjects)
 
 -- ---- the counters of a run
 abbrev pub tallyFrom : Reader → Sums → Tally
@@ -108,13 +109,13 @@ tallyWith t start size (kind.Spinner s) = record {
 
 -- the most that the counters come to, which leaves room for one object more
 pub record Small (t : Tally) : Type 0 where
-  pub objects : t .objects ≤ 8192
-  pub bonus : t .bonus ≤ 2147483647
-  pub combo : t .combo ≤ 1001 * t .objects
-  pub points : t .«combo_score» ≤ 12 * 8200192 * t .objects
+  pub objects : t .objects ≤ maxObjects
+  pub bonus : t .bonus ≤ maxBonus
+  pub combo : t .combo ≤ maxGain * t .objects
+  pub points : t .«combo_score» ≤ 12 * maxCombo * t .objects
   pub sliders : t .sliders ≤ t .objects
-  pub repeats : t .repeats ≤ 1001 * t .objects
-  pub ticks : t .ticks ≤ 1001 * t .objects
+  pub repeats : t .repeats ≤ maxGain * t .objects
+  pub ticks : t .ticks ≤ maxGain * t .objects
   pub spinners : t .spinners ≤ t .objects
   pub standardised : t .standardised ≤ 50 * 2 ^ 31 * t .objects
   pub spun : t .«spinner_score» ≤ 1100 * 2 ^ 31 * t .objects
@@ -122,7 +123,7 @@ pub record Small (t : Tally) : Type 0 where
 -- a spinner, unless the legacy bonus of all objects would be above 2,147,483,647
 abbrev pub Spins : Tally → Float → Float → ℕ → Tallied → Type 0
 Spins t d start size (tallied.Next u) =
-    (t .bonus + legacyOf d ≤ 2147483647) × (u ≡ tallyWith t start size (kind.Spinner (record { duration = d })))
+    (t .bonus + legacyOf d ≤ maxBonus) × (u ≡ tallyWith t start size (kind.Spinner (record { duration = d })))
 Spins t d start size tallied.Other = Unit
 
 -- ---- what the run takes: the object that the rest of a file starts with
@@ -130,7 +131,7 @@ pub record Took (r : List ℕ) (mark : ℕ) (t u : Tally) : Type 0 where
   pub o : Object
   pub size : ℕ
   pub found : objectOf r mark ≡ good (object o, size)
-  pub fits : t .bonus + kindBonus (o .kind) ≤ 2147483647
+  pub fits : t .bonus + kindBonus (o .kind) ≤ maxBonus
   pub same : u ≡ tallyWith t (objectView o .«start_time») size (objectView o .kind)
 
 -- nothing is said of a record that it does not take
@@ -147,7 +148,7 @@ abbrev pub readerIn : Reader → Tally → Reader
 readerIn reader t = record {
   at = t .at;
   settings = reader .settings;
-  counts = record { last = 3; breaks = reader .counts .breaks; objects = t .objects; bonus = t .bonus };
+  counts = record { last = objectRank; breaks = reader .counts .breaks; objects = t .objects; bonus = t .bonus };
 }
 
 abbrev pub scoreIn : State → Tally → ℕ → ℕ → State
@@ -185,4 +186,4 @@ pub record Began (reader : Reader) (t : Tally) : Type 0 where
 
 -- a run comes after an object
 abbrev pub mayRun : Counts → Bool
-mayRun c = pick (eqb (c .last) 3) (pick (ltb 0 (c .objects)) (leb (c .bonus) 2147483647) false) false
+mayRun c = pick (eqb (c .last) objectRank) (pick (ltb 0 (c .objects)) (leb (c .bonus) maxBonus) false) false

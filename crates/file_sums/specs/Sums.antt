@@ -1,10 +1,11 @@
 -- What the code keeps of a map's first p objects while it reads a file, and what it answers.
-use Prim.Native.Nat.{ℕ, _≤_}
+use Prim.Native.Nat.{ℕ, _≤_, _-_}
 use mathlib.Core.List.{List}
 use lib.Dec.{ltb, eqb}
 use lib.IntN.{ℤ, pos}
 use lib.ListN.{length, take}
 use lib.Ieee.{Float}
+use Rattle.records.specs.Limits.{maxObjects, maxNested, maxBreaks}
 use Rattle.records.specs.Refusals.{pick}
 use Rattle.records.specs.Objects.{Object}
 use Rattle.map_file.specs.File.{Result, accepted, refusedAt}
@@ -64,7 +65,7 @@ withRecord p place sums (record·case.Play q) = sums
 abbrev pub Room : Sums → Record → Type 0
 Room sums (record·case.Header s) = Unit
 Room sums (record·case.Break b) = Unit
-Room sums (record·case.Object o) = Within 8191 (sums .score) × Counted 8191 (sums .nested) × (nestedCount (o .kind) ≤ 1000)
+Room sums (record·case.Object o) = Within (maxObjects - 1) (sums .score) × Counted (maxObjects - 1) (sums .nested) × (nestedCount (o .kind) ≤ maxNested)
 Room sums (record·case.Play p) = Unit
 
 -- the drain from the sums and the break records of a file, 0 where the map has no object
@@ -75,7 +76,7 @@ drainIn s breaks objects sums =
 -- what the sums and the reader give at the end of a map, where both are within its limits
 abbrev pub Complete : Reader → Sums → Type 0
 Complete reader sums =
-    SettingsWithin (reader .settings) × (reader .counts .breaks ≤ 128) × Within 8192 (sums .score) × Counted 8192 (sums .nested)
+    SettingsWithin (reader .settings) × (reader .counts .breaks ≤ maxBreaks) × Within maxObjects (sums .score) × Counted maxObjects (sums .nested)
 
 abbrev pub multiplierIn : List ℕ → Reader → Sums → ℕ
 multiplierIn s reader sums =

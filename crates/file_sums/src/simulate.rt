@@ -1,11 +1,13 @@
 // The score attributes of a map file's first objects.
 use crate::tally::pass_objects;
 use crate::tally::skip_objects;
+use map_file::file::NO_RANK;
 use map_file::file::Reader;
 use map_file::file::Step;
 use map_file::file::read_record;
 use records::hit_object::HitObject;
 use records::record::Record;
+use records::refusal;
 use ruleset::score_multiplier::break_len_in;
 use ruleset::score_multiplier::drain_len;
 use ruleset::score_multiplier::score_multiplier;
@@ -15,8 +17,9 @@ use simulator::legacy_score::NestedScorePerObject;
 use simulator::legacy_score_simulator::OsuLegacyScoreSimulator;
 ghost use mathlib.Core.Path.{_≡_};
 ghost use mathlib.Core.List.{[]};
-ghost use Prim.Native.Nat.{_≤_, _<_, _^_};
+ghost use Prim.Native.Nat.{_≤_, _<_, _^_, _-_};
 ghost use lib.Signed.{mag};
+ghost use Rattle.records.specs.Limits.{maxObjects, maxNested, maxBreaks};
 ghost use Rattle.map_file.specs.File.{fileOf};
 ghost use Rattle.simulator.specs.Limits.{Within, Counted, nestedCount};
 ghost use Rattle.file_sums.specs.Sums.{Room, sumsOf, atFirst, withObject, withRecord, drainIn, Complete, attributesIn, simulatedOf};
@@ -54,7 +57,7 @@ impl Sums {
 
     // With the object at a place. One that is not passed gives only the starts, if it is the first.
     pub fn with_object(self, object: HitObject, place: u64, passed: u64) -> Self
-        requires { ⌜ Within 8191 (self .score) × Counted 8191 (self .nested) × (nestedCount (object .kind) ≤ 1000) ⌝ }
+        requires { ⌜ Within (maxObjects - 1) (self .score) × Counted (maxObjects - 1) (self .nested) × (nestedCount (object .kind) ≤ maxNested) ⌝ }
         ensures { λ r. ⌜ r ≡ withObject passed place self object ⌝ }
     {
         let score = self.score;
@@ -92,7 +95,7 @@ impl Sums {
 
 // The drain of a map with `objects` objects, whose file starts with the header and `breaks` breaks.
 fn drain_in(s: &[u8], breaks: u64, objects: u64, sums: Sums) -> i64
-    requires { ⌜ breaks ≤ 128 ⌝ }
+    requires { ⌜ breaks ≤ maxBreaks ⌝ }
     ensures { λ r. ⌜ (r ≡ drainIn (now (s .entry)) breaks objects sums) × (mag r < 2 ^ 53) ⌝ }
 {
     if objects == 0 {
@@ -134,9 +137,9 @@ pub fn simulate(s: &[u8], passed: u64) -> Simulated
             }
         }
     }
-    if reader.counts.last == 0 {
+    if reader.counts.last == NO_RANK {
         return Simulated::Refused {
-            number: 3,
+            number: refusal::MARK,
             offset: 0,
         };
     }

@@ -2,7 +2,9 @@
 // whatever stands there, is left to the loop over all records.
 use crate::simulate::Sums;
 use map_file::file::Counts;
+use map_file::file::OBJECT_RANK;
 use map_file::file::Reader;
+use numbers::naturals::least;
 use numbers::words::word_at;
 use records::hit_object;
 use records::hit_object::HitObject;
@@ -18,8 +20,9 @@ use spinner::LegacyBonusScore;
 use spinner::StandardisedBonusScore;
 use spinner::spin;
 ghost use mathlib.Core.Path.{_≡_};
-ghost use Prim.Native.Nat.{_+_, _≤_, _<_, _^_, min};
+ghost use Prim.Native.Nat.{_+_, _≤_, _<_, _^_};
 ghost use lib.ListN.{length};
+ghost use Rattle.records.specs.Limits.{maxObjects, maxNested, maxBonus};
 ghost use Rattle.records.specs.Records.{CI, SL, SP};
 ghost use Rattle.simulator.specs.Limits.{Within, Counted};
 ghost use Rattle.file_sums.specs.Runs.{tallyFrom, tallyWith, Small, Spins, Takes, TakesNext, scoreIn, nestedIn, readerIn, sumsIn, Began, mayRun, Steps, Ready};
@@ -72,7 +75,7 @@ impl Tally {
     }
 
     fn circle(self, start: f64, size: usize) -> Self
-        requires { ⌜ Small self × (self .objects < 8192) × (self .at + size < 2 ^ 64) ⌝ }
+        requires { ⌜ Small self × (self .objects < maxObjects) × (self .at + size < 2 ^ 64) ⌝ }
         ensures { λ r. ⌜ r ≡ tallyWith self start size HitObjectKind.Circle ⌝ }
     {
         Tally {
@@ -86,7 +89,7 @@ impl Tally {
     }
 
     fn slider(self, slider: Slider, start: f64, size: usize) -> Self
-        requires { ⌜ Small self × (self .objects < 8192) × (self .at + size < 2 ^ 64) × (slider .repeats + slider .ticks + 1 ≤ 1000) ⌝ }
+        requires { ⌜ Small self × (self .objects < maxObjects) × (self .at + size < 2 ^ 64) × (slider .repeats + slider .ticks + 1 ≤ maxNested) ⌝ }
         ensures { λ r. ⌜ r ≡ tallyWith self start size (HitObjectKind.Slider slider) ⌝ }
     {
         let combo = self.combo + 2 + slider.repeats + slider.ticks;
@@ -104,12 +107,12 @@ impl Tally {
     }
 
     fn spinner(self, duration: f64, start: f64, size: usize) -> Tallied
-        requires { ⌜ Small self × (self .objects < 8192) × (self .at + size < 2 ^ 64) ⌝ }
+        requires { ⌜ Small self × (self .objects < maxObjects) × (self .at + size < 2 ^ 64) ⌝ }
         ensures { λ r. ⌜ Spins self duration start size r ⌝ }
     {
         let spun = spin(duration);
         let legacy = spun.bonus.legacy.0;
-        if Counts::MAX_BONUS - self.bonus < legacy {
+        if HitObject::MAX_BONUS - self.bonus < legacy {
             return Tallied::Other;
         }
         let half_spins = spun.half_spins;
@@ -129,7 +132,7 @@ impl Tally {
 
     // The object by its kind. Three functions read the three kinds, so that each has the reading and the counting of its own in one piece.
     fn with_circle(self, r: &[u8]) -> Tallied
-        requires { ⌜ Small self × (self .objects < 8192) × (self .at + length (now r) < 2 ^ 64) ⌝ }
+        requires { ⌜ Small self × (self .objects < maxObjects) × (self .at + length (now r) < 2 ^ 64) ⌝ }
         ensures { λ x. ⌜ Takes (now (r .entry)) CI self x ⌝ }
     {
         let Read::Good(item, size) = hit_object::read_circle(r) else {
@@ -146,7 +149,7 @@ impl Tally {
     }
 
     fn with_slider(self, r: &[u8]) -> Tallied
-        requires { ⌜ Small self × (self .objects < 8192) × (self .at + length (now r) < 2 ^ 64) ⌝ }
+        requires { ⌜ Small self × (self .objects < maxObjects) × (self .at + length (now r) < 2 ^ 64) ⌝ }
         ensures { λ x. ⌜ Takes (now (r .entry)) SL self x ⌝ }
     {
         let Read::Good(item, size) = hit_object::read_slider(r) else {
@@ -163,7 +166,7 @@ impl Tally {
     }
 
     fn with_spinner(self, r: &[u8]) -> Tallied
-        requires { ⌜ Small self × (self .objects < 8192) × (self .at + length (now r) < 2 ^ 64) ⌝ }
+        requires { ⌜ Small self × (self .objects < maxObjects) × (self .at + length (now r) < 2 ^ 64) ⌝ }
         ensures { λ x. ⌜ Takes (now (r .entry)) SP self x ⌝ }
     {
         let Read::Good(item, size) = hit_object::read_spinner(r) else {
@@ -180,7 +183,7 @@ impl Tally {
     }
 
     fn with_next(self, s: &[u8]) -> Tallied
-        requires { ⌜ Small self × (self .objects < 8192) ⌝ }
+        requires { ⌜ Small self × (self .objects < maxObjects) ⌝ }
         ensures { λ x. ⌜ TakesNext (now (s .entry)) self x ⌝ }
     {
         let at = self.at;
@@ -206,7 +209,7 @@ impl Tally {
 
     // The score with the run's objects, of which there are n.
     fn score(self, score: OsuLegacyScoreSimulator, n: u64, bonus: u64) -> OsuLegacyScoreSimulator
-        requires { ⌜ Small self × Within 8192 score × (n ≤ 8192) × (bonus ≤ 2147483647) ⌝ }
+        requires { ⌜ Small self × Within maxObjects score × (n ≤ maxObjects) × (bonus ≤ maxBonus) ⌝ }
         ensures { λ r. ⌜ r ≡ scoreIn score self n bonus ⌝ }
     {
         OsuLegacyScoreSimulator {
@@ -224,7 +227,7 @@ impl Tally {
     }
 
     fn nested(self, nested: NestedScorePerObject, n: u64) -> NestedScorePerObject
-        requires { ⌜ Small self × Counted 8192 nested × (n ≤ 8192) × (self .sliders + self .spinners ≤ n) ⌝ }
+        requires { ⌜ Small self × Counted maxObjects nested × (n ≤ maxObjects) × (self .sliders + self .spinners ≤ n) ⌝ }
         ensures { λ r. ⌜ r ≡ nestedIn nested self n ⌝ }
     {
         NestedScorePerObject {
@@ -240,7 +243,7 @@ impl Tally {
 
     // The run that began at a reader and its sums.
     fn run(self, reader: Reader, sums: Sums) -> Run
-        requires { ⌜ Small self × Began reader self × Within 8192 (sums .score) × Counted 8192 (sums .nested) ⌝ }
+        requires { ⌜ Small self × Began reader self × Within maxObjects (sums .score) × Counted maxObjects (sums .nested) ⌝ }
         ensures { λ r. ⌜ (r .reader ≡ readerIn reader self) × (r .sums ≡ sumsIn reader sums self) ⌝ }
     {
         let settings = reader.settings;
@@ -252,7 +255,7 @@ impl Tally {
                 at: self.at,
                 settings,
                 counts: Counts {
-                    last: 3,
+                    last: OBJECT_RANK,
                     breaks: reader.counts.breaks,
                     objects: self.objects,
                     bonus: self.bonus,
@@ -268,24 +271,13 @@ impl Tally {
     }
 }
 
-// How many objects a run may reach.
-fn limit_of(passed: u64) -> u64
-    ensures { λ r. ⌜ r ≡ min passed 8192 ⌝ }
-{
-    if passed < HitObject::MAX_COUNT {
-        passed
-    } else {
-        HitObject::MAX_COUNT
-    }
-}
-
 // A run comes after an object.
 fn may_run(c: Counts) -> bool
     ensures { λ r. ⌜ r ≡ mayRun c ⌝ }
 {
-    if c.last == 3 {
+    if c.last == OBJECT_RANK {
         if 0 < c.objects {
-            return c.bonus <= Counts::MAX_BONUS;
+            return c.bonus <= HitObject::MAX_BONUS;
         }
     }
     false
@@ -300,7 +292,7 @@ pub fn pass_objects(s: &[u8], reader: Reader, sums: Sums, passed: u64) -> Run
     if !may_run(counts) {
         return Run { reader, sums };
     }
-    let limit = limit_of(passed);
+    let limit = least(passed, HitObject::MAX_COUNT);
     let mut tally = Tally::new(reader, sums);
     while tally.objects < limit {
         match tally.with_next(s) {

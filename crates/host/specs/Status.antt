@@ -3,6 +3,8 @@ use Prim.Native.Nat.{ℕ, _*_}
 use mathlib.Core.List.{List}
 use lib.Dec.{ltb}
 use lib.Ieee.{Float}
+use Rattle.records.specs.Limits.{maxObjects}
+use Rattle.entries.specs.Entry.{placeWords}
 use Rattle.records.specs.Refusals.{pick}
 use Rattle.tree.specs.Size.{capOf}
 use Rattle.board.specs.declared.place.Written.{Written}
@@ -11,7 +13,7 @@ use Rattle.host.specs.declared.status.Status.{Status}
 
 -- "11: the board has fewer than 26 × C words": that many. No map has more than 8,192 objects, and there it is 0
 abbrev pub boardWords : ℕ → ℕ
-boardWords n = pick (ltb 8192 n) 0 (26 * capOf n)
+boardWords n = pick (ltb maxObjects n) 0 (placeWords * capOf n)
 
 -- 0 where the call wrote, else the number of the refusal and its offset
 abbrev pub statusOf : Written → Status

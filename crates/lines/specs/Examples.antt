@@ -1,4 +1,4 @@
--- The lines that document 01 shows, each computed, with the attributes of the same map, and a refusal.
+-- The lines that document 01 shows, each computed, and a refusal.
 use mathlib.Core.Path.{_≡_, refl}
 use lib.Ieee.{binary64, nan, ofBits, ofInt, round, toBits, isNan}
 use Rattle.numbers.specs.Floats.{whole}
@@ -6,7 +6,7 @@ use Rattle.simulator.specs.declared.attributes.ScoreAttributes.{ScoreAttributes
 use Rattle.miss_calc.specs.declared.legacy_score_miss_calc.MissCount.the-variants as misses
 use Rattle.text.specs.Ascii.{ascii}
 use Rattle.text.specs.Numbers.{decimalUpTo, decimalOf, hexOf, floatText}
-use Rattle.lines.specs.Lines.{numberField, floatField, scoreBasedField, countFields, mapLine, attributesLine, playLine, refusedLine}
+use Rattle.lines.specs.Lines.{numberField, floatField, scoreBasedField, mapLine, playLine, refusedLine}
 
 shown : ScoreAttributes
 shown = record {
@@ -36,10 +36,6 @@ shown = record {
 map-line : mapLine shown ≡ ascii "map 3 2 1010 240 0000000000000000 0 7 4042555555555555\n"
 unfolding shown mapLine numberField floatField decimalOf decimalUpTo floatText hexOf isNan ofBits ofInt round toBits
 map-line = refl
-
-attributes-line : attributesLine 0 shown ≡ ascii "attrs 0 3 2 1010 240 0000000000000000 0 0 7 4042555555555555 2 1 0 1 2\n"
-unfolding shown attributesLine countFields numberField floatField decimalOf decimalUpTo floatText hexOf isNan ofBits ofInt round toBits
-attributes-line = refl
 
 play-line : playLine 0 (record { accuracy = whole 1; «combo_based» = whole 0; «score_based» = misses.Is (whole 0); effective = whole 0 })
     ≡ ascii "play 0 3ff0000000000000 0000000000000000 0000000000000000 0000000000000000\n"

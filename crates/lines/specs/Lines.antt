@@ -1,12 +1,10 @@
--- Document 01, "Runs to reproduce": the lines of the listing program, and one of all score attributes for the programs that are compared with
--- the Rust. A field is a space and its text, and every line ends in a line feed.
+-- Document 01, "Runs to reproduce": the lines of the listing program. A field is a space and its text, and every line ends in a line feed.
 -- Definitions only.
 use Prim.Native.Nat.{ℕ}
 use mathlib.Core.List.{List, _++_}
 use lib.Ieee.{Float}
 use Rattle.text.specs.Ascii.{ascii}
 use Rattle.text.specs.Numbers.{decimalOf, floatText}
-use Rattle.simulator.specs.declared.attributes.OsuDifficultyAttributes.{OsuDifficultyAttributes}
 use Rattle.simulator.specs.declared.attributes.ScoreAttributes.{ScoreAttributes}
 use Rattle.estimates.specs.declared.calculator.Estimates.{Estimates}
 use Rattle.miss_calc.specs.declared.legacy_score_miss_calc.MissCount.{MissCount}
@@ -37,32 +35,6 @@ mapLine a =
     ++ numberField (a .legacy .«bonus_score» .0)
     ++ numberField (a .legacy .«max_combo»)
     ++ floatField (a .difficulty .«nested_score_per_object»)
-    ++ ascii "\n"
-
--- circles, sliders, spinners, repeats, ticks
-unfoldable pub countFields : OsuDifficultyAttributes → List ℕ
-countFields d =
-    numberField (d .«n_circles»)
-    ++ numberField (d .«n_sliders»)
-    ++ numberField (d .«n_spinners»)
-    ++ numberField (d .«n_repeats»)
-    ++ numberField (d .«n_ticks»)
-
--- of a play's passed objects: index, count, multiplier, accuracy, combo points, ratio bits, legacy and standardised bonus, max combo, nested bits, counts
-unfoldable pub attributesLine : ℕ → ScoreAttributes → List ℕ
-attributesLine index a =
-    ascii "attrs"
-    ++ numberField index
-    ++ numberField (a .«object_count»)
-    ++ numberField (a .multiplier)
-    ++ numberField (a .legacy .«accuracy_score»)
-    ++ numberField (a .legacy .«combo_score»)
-    ++ floatField (a .legacy .«bonus_score_ratio»)
-    ++ numberField (a .legacy .«bonus_score» .0)
-    ++ numberField (a .«standardised_bonus_score» .0)
-    ++ numberField (a .legacy .«max_combo»)
-    ++ floatField (a .difficulty .«nested_score_per_object»)
-    ++ countFields (a .difficulty)
     ++ ascii "\n"
 
 -- "Play: index, accuracy, combo-based, score-based (`-` if absent), effective"

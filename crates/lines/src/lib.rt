@@ -1,7 +1,6 @@
-// The lines of the programs, written into a lent space. Each function takes the place where its text starts and answers the place behind it.
+// The lines of the listing program, written into a lent space. Each function takes the place where its text starts and answers the place behind it.
 use estimates::calculator::Estimates;
 use miss_calc::legacy_score_miss_calc::MissCount;
-use simulator::attributes::OsuDifficultyAttributes;
 use simulator::attributes::ScoreAttributes;
 use text::put_decimal;
 use text::put_float;
@@ -9,7 +8,7 @@ use text::put_text;
 ghost use mathlib.Core.Path.{_≡_};
 ghost use Rattle.text.specs.Ascii.{ascii};
 ghost use Rattle.text.specs.Space.{putAt, behind};
-ghost use Rattle.lines.specs.Lines.{numberField, floatField, scoreBasedField, countFields, mapLine, attributesLine, playLine, refusedLine};
+ghost use Rattle.lines.specs.Lines.{numberField, floatField, scoreBasedField, mapLine, playLine, refusedLine};
 
 // A space and a number.
 fn put_number(space: &mut [u8], at: usize, n: u64) -> usize
@@ -59,39 +58,6 @@ pub fn put_map_line(space: &mut [u8], at: usize, a: ScoreAttributes) -> usize
     let at = put_number(space, at, a.legacy.bonus_score.0);
     let at = put_number(space, at, a.legacy.max_combo);
     let at = put_bits(space, at, a.difficulty.nested_score_per_object);
-    end_line(space, at)
-}
-
-// The objects by kind, the repeats and the ticks.
-fn put_counts(space: &mut [u8], at: usize, d: OsuDifficultyAttributes) -> usize
-    ensures { λ r. ⌜ r ≡ behind (now (space .entry)) at (countFields d) ⌝ }
-    ensures { λ _. ⌜ now (space .exit) ≡ putAt (now (space .entry)) at (countFields d) ⌝ }
-{
-    let at = put_number(space, at, d.n_circles as u64);
-    let at = put_number(space, at, d.n_sliders as u64);
-    let at = put_number(space, at, d.n_spinners as u64);
-    let at = put_number(space, at, d.n_repeats as u64);
-    put_number(space, at, d.n_ticks as u64)
-}
-
-// All score attributes of a play's passed objects.
-pub fn put_attributes_line(space: &mut [u8], at: usize, index: u64, a: ScoreAttributes) -> usize
-    ensures { λ r. ⌜ r ≡ behind (now (space .entry)) at (attributesLine index a) ⌝ }
-    ensures { λ _. ⌜ now (space .exit) ≡ putAt (now (space .entry)) at (attributesLine index a) ⌝ }
-{
-    let at = put_text(space, at, b"attrs");
-    let at = put_number(space, at, index);
-    let at = put_number(space, at, a.object_count);
-    let at = put_number(space, at, a.multiplier);
-    let at = put_number(space, at, a.legacy.accuracy_score);
-    let at = put_number(space, at, a.legacy.combo_score);
-    let at = put_bits(space, at, a.legacy.bonus_score_ratio);
-    let at = put_number(space, at, a.legacy.bonus_score.0);
-    let at = put_number(space, at, a.standardised_bonus_score.0);
-    let at = put_number(space, at, a.legacy.max_combo);
-    let at = put_bits(space, at, a.difficulty.nested_score_per_object);
-    let difficulty = a.difficulty;
-    let at = put_counts(space, at, difficulty);
     end_line(space, at)
 }
 

@@ -3,12 +3,13 @@
 use libc::STDIN_FILENO;
 use libc::STDOUT_FILENO;
 use listing::Listed;
+use listing::MAX_INPUT;
 use listing::list_input;
 ghost use lib.ListN.{length};
 ghost use Rattle.list.specs.Places.{MovedWithin, InputWithin};
 
 // One byte more than document 01 takes, so that a longer input is told and no further byte is read.
-const INPUT: usize = 65537;
+const INPUT: usize = MAX_INPUT + 1;
 
 // More than any listing has: 65,536 bytes hold at most 1,489 plays, whose lines have at most 94 bytes, as the map's has at most 164.
 const LISTING: usize = 262144;

@@ -8,6 +8,7 @@ use native.Mathlib.Omega.{arith}
 use borrow.Author.Tests.{ltb-false, lt-ltb}
 use lib.Dec.{eqb, ltb}
 use lib.ListN.{length, take, length-append, length-drop}
+use Rattle.records.specs.Limits.{maxObjects}
 use Rattle.records.specs.Refusals.{Checked, good, refused, pick}
 use Rattle.records.specs.Objects.{Object}
 use Rattle.records.specs.Records.{Content, header, break, object, play, Found}
@@ -53,8 +54,8 @@ module _ (m : Map) (p : ℕ) (w : MapWithin m) where
   unfolding scoreAttributesAt scoreAttributesOf legacyAttributesOf
   words =
       let few = each-few (m .objects) (w .objects) in
-      let sums = passed-within p 8192 (m .objects) (w .few-objects) (omega arith) few in
-      let counts = passed-counted p 8192 (m .objects) (w .few-objects) (omega arith) few in
+      let sums = passed-within p maxObjects (m .objects) (w .few-objects) (omega arith) few in
+      let counts = passed-counted p maxObjects (m .objects) (w .few-objects) (omega arith) few in
       rw walked record {
         count = omega (arith, counts .objects);
         multiplier = omega (arith, multiplier-most m p w);

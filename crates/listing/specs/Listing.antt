@@ -3,8 +3,9 @@ use Prim.Native.Nat.{ℕ, suc, _+_}
 use mathlib.Core.List.{List, [], _∷_, _++_}
 use lib.Dec.{ltb}
 use lib.ListN.{length}
+use Rattle.records.specs.Limits.{maxInput}
 use Rattle.lines.specs.Lines.{mapLine, playLine, refusedLine}
-use Rattle.records.specs.Refusals.{pick}
+use Rattle.records.specs.Refusals.{pick, INPUT}
 use Rattle.map_file.specs.File.{fileOf}
 use Rattle.simulator.specs.Attributes.{scoreAttributesAt}
 use Rattle.scoring.specs.Scores.{Outcome, refusal, values, Scores, scoresOf}
@@ -30,7 +31,7 @@ fileText s = textOf (scoresOf (fileOf s))
 
 -- "1: the program's input is above 65,536 bytes (the library has no such limit)"
 unfoldable pub inputText : List ℕ → List ℕ
-inputText s = pick (ltb 65536 (length s)) (refusedLine 1 0) (fileText s)
+inputText s = pick (ltb maxInput (length s)) (refusedLine INPUT 0) (fileText s)
 
 -- a text that leaves the space no byte does not fit
 abbrev pub listedOf : List ℕ → ℕ → Listed

@@ -2,7 +2,7 @@
 use lines::put_map_line;
 use lines::put_play_line;
 use lines::put_refused_line;
-use map_file::file::Reader;
+use records::refusal;
 use scoring::plays::Walk;
 use scoring::plays::Walked;
 use scoring::plays::Wanted;
@@ -21,6 +21,9 @@ ghost use Rattle.lines.specs.Lines.{mapLine};
 ghost use Rattle.map_file.specs.File.{fileOf};
 ghost use Rattle.scoring.specs.Scores.{scoresOf};
 ghost use Rattle.listing.specs.Listing.{wantedLine, indexAfter, IsGood, playsText, fileText, inputText, listedAt, listedOf};
+
+// The most bytes that the listing program takes.
+pub const MAX_INPUT: usize = 65536;
 
 // How many bytes of the space the text takes, if it is longer than the text.
 pub enum Listed {
@@ -100,8 +103,8 @@ fn put_input(s: &[u8], space: &mut [u8]) -> usize
     ensures { λ r. ⌜ r ≡ behind (now (space .entry)) 0 (inputText (now (s .entry))) ⌝ }
     ensures { λ _. ⌜ now (space .exit) ≡ putAt (now (space .entry)) 0 (inputText (now (s .entry))) ⌝ }
 {
-    if Reader::MAX_PROGRAM_INPUT < s.len() {
-        return put_refused_line(space, 0, 1, 0);
+    if MAX_INPUT < s.len() {
+        return put_refused_line(space, 0, refusal::INPUT as u64, 0);
     }
     put_file(s, space)
 }

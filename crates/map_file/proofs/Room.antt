@@ -6,6 +6,7 @@ use Prim.Native.Nat.{ℕ, _+_, _≤_, _<_}
 use native.Mathlib.Omega.{arith}
 use lib.Dec.{eqb, leb, ltb}
 use borrow.Author.Tests.{leb-true, leb-false, ltb-true, ltb-false, eqb-true, not-false}
+use Rattle.records.specs.Limits.{maxBreaks, maxObjects, maxBonus}
 use Rattle.numbers.specs.Words.{wordAt}
 use Rattle.records.specs.Refusals.{Checked, good, refused}
 use Rattle.records.specs.Objects.{Object}
@@ -47,8 +48,8 @@ body-placed r m =
 
 fits : (c : Counts) (m : ℕ) (x : Content) → placeOf x ≡ rankOf m → isFull c (rankOf m) ≡ false → overBonus c (contentBonus x) ≡ false → Fits c (contentView x)
 fits c m (header s) p q h = tt
-fits c m (break b) p q h = leb-false 128 (c .breaks) (rw (sym p) at q)
-fits c m (object o) p q h = (leb-false 8192 (c .objects) (rw (sym p) at q), (let k : c .bonus + contentBonus (object o) ≤ 2147483647 = ltb-false 2147483647 _ h in rw (bonus-kept (object o)) k))
+fits c m (break b) p q h = leb-false maxBreaks (c .breaks) (rw (sym p) at q)
+fits c m (object o) p q h = (leb-false maxObjects (c .objects) (rw (sym p) at q), (let k : c .bonus + contentBonus (object o) ≤ maxBonus = ltb-false maxBonus _ h in rw (bonus-kept (object o)) k))
 fits c m (play s) p q h = tt
 
 pub record-fits : (r : List ℕ) (c : Counts) → All (λ f. Fits c (contentView (f .0))) (recordOf r c)

@@ -5,10 +5,10 @@ use mathlib.Core.List.{List, [], _∷_, _++_}
 use lib.Dec.{eqb, ltb}
 use lib.ListN.{length, drop}
 use lib.Ieee.{binary32, ofBits}
-use Rattle.records.specs.Refusals.{Checked, good, refused, pick}
+use Rattle.records.specs.Refusals.{Checked, good, refused, pick, MARK}
 use Rattle.records.specs.Objects.{Object, bonus}
 use Rattle.records.specs.Records.{Content, header, break, object, play}
-use Rattle.map_file.specs.Order.{recordOf}
+use Rattle.map_file.specs.Order.{recordOf, noRank, headerRank, breakRank, objectRank, playRank}
 use Rattle.records.specs.declared.beatmap.Settings.{Settings}
 use Rattle.records.specs.declared.beatmap.BreakPeriod.{BreakPeriod}
 use Rattle.records.specs.declared.play.Play.{Play}
@@ -33,10 +33,10 @@ countsOf f = record { last = f .last; breaks = length (f .map .breaks); objects 
 -- the file with one more record, which is `size` bytes long
 unfoldable pub with-record : File → Content × ℕ → File
 with-record f r = elim (r .0) [
-  | header s ↦ record { at = f .at + r .1; last = 1; map = record { settings = s; breaks = f .map .breaks; objects = f .map .objects }; plays = f .plays }
-  | break b ↦ record { at = f .at + r .1; last = 2; map = record { settings = f .map .settings; breaks = f .map .breaks ++ (b ∷ []); objects = f .map .objects }; plays = f .plays }
-  | object o ↦ record { at = f .at + r .1; last = 3; map = record { settings = f .map .settings; breaks = f .map .breaks; objects = f .map .objects ++ (o ∷ []) }; plays = f .plays }
-  | play p ↦ record { at = f .at + r .1; last = 4; map = f .map; plays = f .plays ++ ((f .at, p) ∷ []) }
+  | header s ↦ record { at = f .at + r .1; last = headerRank; map = record { settings = s; breaks = f .map .breaks; objects = f .map .objects }; plays = f .plays }
+  | break b ↦ record { at = f .at + r .1; last = breakRank; map = record { settings = f .map .settings; breaks = f .map .breaks ++ (b ∷ []); objects = f .map .objects }; plays = f .plays }
+  | object o ↦ record { at = f .at + r .1; last = objectRank; map = record { settings = f .map .settings; breaks = f .map .breaks; objects = f .map .objects ++ (o ∷ []) }; plays = f .plays }
+  | play p ↦ record { at = f .at + r .1; last = playRank; map = f .map; plays = f .plays ++ ((f .at, p) ∷ []) }
 ]
 
 -- a whole file; or a refusal's number and offset, and what was read before it
@@ -46,7 +46,7 @@ pub data Result : Type 0 where
 
 -- at the end of the input: the offset "is 0 .. for a missing header"
 abbrev pub ended : File → Result
-ended f = pick (eqb (f .last) 0) (refusedAt 3 0 f) (accepted f)
+ended f = pick (eqb (f .last) noRank) (refusedAt MARK 0 f) (accepted f)
 
 -- "The offset is that of the record's first mark byte"
 abbrev pub follow : File → Checked (Content × ℕ) → (Content × ℕ → Result) → Result
@@ -64,7 +64,7 @@ fileFrom (suc fuel) s f =
 abbrev pub fresh : File
 fresh = record {
   at = 0;
-  last = 0;
+  last = noRank;
   map = record { settings = record { hp = ofBits binary32 0; od = ofBits binary32 0; cs = ofBits binary32 0 }; breaks = []; objects = [] };
   plays = [];
 }

@@ -3,8 +3,9 @@ use Prim.Native.Nat.{ℕ, _+_}
 use mathlib.Core.Bool.{Bool, true, false, not, _&&_}
 use mathlib.Core.List.{List}
 use lib.Dec.{eqb, leb, ltb}
+use Rattle.records.specs.Limits.{maxObjects, maxBreaks, maxBonus, markSize}
 use Rattle.numbers.specs.Words.{wordAt}
-use Rattle.records.specs.Refusals.{Checked, good, refused, _>>=_, _>>_, refuse_when_, pick}
+use Rattle.records.specs.Refusals.{Checked, good, refused, _>>=_, _>>_, refuse_when_, pick, CUT, MARK, COUNT, BONUS}
 use Rattle.records.specs.Fields.{cut}
 use Rattle.records.specs.Objects.{kindBonus}
 use Rattle.records.specs.Records.{Content, header, break, object, play, Found, CI, SL, SP, headerOf, breakOf, playOf, objectOf}
@@ -19,21 +20,40 @@ BR = 0x5242
 abbrev pub PL : ℕ
 PL = 0x4c50
 
--- the place of a mark in the order of the records: header 1, break 2, object 3, play 4, and 0 for an unknown mark
-abbrev pub rankOf : ℕ → ℕ
-rankOf mark = pick (eqb mark MH) 1 (pick (eqb mark BR) 2 (pick (eqb mark CI) 3 (pick (eqb mark SL) 3 (pick (eqb mark SP) 3 (pick (eqb mark PL) 4 0)))))
+-- ---- the places of the records in their order; an unknown mark, or no record, has none
+abbrev pub noRank : ℕ
+noRank = 0
 
--- "The order is MH once, any BR, any objects, any PL": after a record of place `last`, which is 0 before the first
+abbrev pub headerRank : ℕ
+headerRank = 1
+
+abbrev pub breakRank : ℕ
+breakRank = 2
+
+abbrev pub objectRank : ℕ
+objectRank = 3
+
+abbrev pub playRank : ℕ
+playRank = 4
+
+-- the place of a mark
+abbrev pub rankOf : ℕ → ℕ
+rankOf mark =
+    pick (eqb mark MH) headerRank
+    (pick (eqb mark BR) breakRank
+    (pick (eqb mark CI) objectRank (pick (eqb mark SL) objectRank (pick (eqb mark SP) objectRank (pick (eqb mark PL) playRank noRank)))))
+
+-- "The order is MH once, any BR, any objects, any PL": after a record of place `last`
 abbrev pub inOrder : ℕ → ℕ → Bool
-inOrder last rank = pick (leb rank 1) (eqb rank 1 && eqb last 0) (ltb 0 last && leb last rank)
+inOrder last rank = pick (leb rank headerRank) (eqb rank headerRank && eqb last noRank) (ltb noRank last && leb last rank)
 
 -- "6: a 129th break, an 8,193rd object"
 abbrev pub isFull : Counts → ℕ → Bool
-isFull c rank = pick (eqb rank 2) (leb 128 (c .breaks)) (pick (eqb rank 3) (leb 8192 (c .objects)) false)
+isFull c rank = pick (eqb rank breakRank) (leb maxBreaks (c .breaks)) (pick (eqb rank objectRank) (leb maxObjects (c .objects)) false)
 
 -- "7: the legacy bonus of all objects is above 2,147,483,647"
 abbrev pub overBonus : Counts → ℕ → Bool
-overBonus c more = ltb 2147483647 (c .bonus + more)
+overBonus c more = ltb maxBonus (c .bonus + more)
 
 abbrev pub contentBonus : Content → ℕ
 contentBonus (header s) = 0
@@ -47,9 +67,9 @@ bodyOf r mark = pick (eqb mark MH) (headerOf r) (pick (eqb mark BR) (breakOf r) 
 -- "The checks of one record run: mark cut (2), mark (3), record count (6), ..., bonus so far (7)"
 unfoldable pub recordOf : List ℕ → Counts → Found
 recordOf r c = do
-  refuse 2 when cut r 2
-  refuse 3 when not (inOrder (c .last) (rankOf (wordAt r 0 2)))
-  refuse 6 when isFull c (rankOf (wordAt r 0 2))
+  refuse CUT when cut r markSize
+  refuse MARK when not (inOrder (c .last) (rankOf (wordAt r 0 2)))
+  refuse COUNT when isFull c (rankOf (wordAt r 0 2))
   found ← bodyOf r (wordAt r 0 2)
-  refuse 7 when overBonus c (contentBonus (found .0))
+  refuse BONUS when overBonus c (contentBonus (found .0))
   good found

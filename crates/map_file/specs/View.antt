@@ -2,11 +2,11 @@
 use Prim.Native.Nat.{ℕ, _+_, _≤_, _<_}
 use mathlib.Core.Bool.{Bool, true, false}
 use mathlib.Core.List.{List}
-use lib.Dec.{ltb}
 use lib.Ieee.{binary32, ofBits}
-use lib.ListN.{length}
+use Rattle.map_file.specs.Order.{noRank, headerRank, breakRank, objectRank, playRank}
+use Rattle.records.specs.Limits.{maxBreaks, maxObjects, maxBonus}
 use Rattle.spinner.specs.Bonus.{legacyOf}
-use Rattle.records.specs.Refusals.{Checked, good, refused, pick}
+use Rattle.records.specs.Refusals.{Checked, good, refused}
 use Rattle.records.specs.Records.{Content, Found, contentView}
 use Rattle.map_file.specs.File.{File, Result, accepted, refusedAt, countsOf, fileOf}
 use Rattle.records.specs.declared.beatmap.Settings.{Settings}
@@ -34,16 +34,16 @@ bonusIn (record·case.Play p) = 0
 
 -- the counts with one more record
 unfoldable pub countedIn : Counts → Record → Counts
-countedIn c (record·case.Header s) = record { last = 1; breaks = c .breaks; objects = c .objects; bonus = c .bonus }
-countedIn c (record·case.Break b) = record { last = 2; breaks = c .breaks + 1; objects = c .objects; bonus = c .bonus }
-countedIn c (record·case.Object o) = record { last = 3; breaks = c .breaks; objects = c .objects + 1; bonus = c .bonus + kindBonusIn (o .kind) }
-countedIn c (record·case.Play p) = record { last = 4; breaks = c .breaks; objects = c .objects; bonus = c .bonus }
+countedIn c (record·case.Header s) = record { last = headerRank; breaks = c .breaks; objects = c .objects; bonus = c .bonus }
+countedIn c (record·case.Break b) = record { last = breakRank; breaks = c .breaks + 1; objects = c .objects; bonus = c .bonus }
+countedIn c (record·case.Object o) = record { last = objectRank; breaks = c .breaks; objects = c .objects + 1; bonus = c .bonus + kindBonusIn (o .kind) }
+countedIn c (record·case.Play p) = record { last = playRank; breaks = c .breaks; objects = c .objects; bonus = c .bonus }
 
 -- the limits leave room for one more record
 abbrev pub Fits : Counts → Record → Type 0
 Fits c (record·case.Header s) = Unit
-Fits c (record·case.Break b) = c .breaks < 128
-Fits c (record·case.Object o) = (c .objects < 8192) × (c .bonus + kindBonusIn (o .kind) ≤ 2147483647)
+Fits c (record·case.Break b) = c .breaks < maxBreaks
+Fits c (record·case.Object o) = (c .objects < maxObjects) × (c .bonus + kindBonusIn (o .kind) ≤ maxBonus)
 Fits c (record·case.Play p) = Unit
 
 abbrev pub settingsAfter : Settings → Record → Settings
@@ -70,12 +70,8 @@ view f = record { at = f .at; settings = f .map .settings; counts = countsOf f }
 
 -- that of a fresh file
 abbrev pub freshOf : Reader
-freshOf = record { at = 0; settings = record { hp = ofBits binary32 0; od = ofBits binary32 0; cs = ofBits binary32 0 }; counts = record { last = 0; breaks = 0; objects = 0; bonus = 0 } }
+freshOf = record { at = 0; settings = record { hp = ofBits binary32 0; od = ofBits binary32 0; cs = ofBits binary32 0 }; counts = record { last = noRank; breaks = 0; objects = 0; bonus = 0 } }
 
 abbrev pub answerOf : Result → Answer
 answerOf (accepted f) = answer.Map (view f)
 answerOf (refusedAt n at f) = answer.Refused n at
-
--- "1: the program's input is above 65,536 bytes (the library has no such limit)"
-abbrev pub programAnswerOf : List ℕ → Answer
-programAnswerOf s = pick (ltb 65536 (length s)) (answer.Refused 1 0) (answerOf (fileOf s))

@@ -9,19 +9,31 @@ use records::hit_object::HitObjectKind;
 use records::play;
 use records::record::Read;
 use records::record::Record;
+use records::refusal;
 ghost use mathlib.Core.Path.{_≡_};
 ghost use Prim.Native.Nat.{_+_, _≤_, _<_};
 ghost use lib.ListN.{length, drop};
 ghost use Rattle.records.specs.Records.{readOf};
 ghost use Rattle.map_file.specs.Order.{rankOf, inOrder, isFull, overBonus, bodyOf, recordOf};
 ghost use Rattle.map_file.specs.File.{fileOf};
-ghost use Rattle.map_file.specs.View.{bonusIn, countedIn, Fits, settingsAfter, stepOf, freshOf, answerOf, programAnswerOf};
+ghost use Rattle.map_file.specs.View.{bonusIn, countedIn, Fits, settingsAfter, stepOf, freshOf, answerOf};
 
 pub const MH: u64 = 0x484d;
 
 pub const BR: u64 = 0x5242;
 
 pub const PL: u64 = 0x4c50;
+
+// The places of the records in their order; an unknown mark, or no record, has none.
+pub const NO_RANK: u8 = 0;
+
+pub const HEADER_RANK: u8 = 1;
+
+pub const BREAK_RANK: u8 = 2;
+
+pub const OBJECT_RANK: u8 = 3;
+
+pub const PLAY_RANK: u8 = 4;
 
 // What the checks of the next record lean on: the last record's place in the order, the records so far and their legacy bonus.
 pub struct Counts {
@@ -48,13 +60,7 @@ pub enum Answer {
     Refused { number: u8, offset: usize },
 }
 
-impl Counts {
-    pub const MAX_BONUS: u64 = 2147483647;
-}
-
 impl Reader {
-    pub const MAX_PROGRAM_INPUT: usize = 65536;
-
     pub fn new() -> Self
         ensures { λ r. ⌜ r ≡ freshOf ⌝ }
     {
@@ -66,7 +72,7 @@ impl Reader {
                 cs: 0.0,
             },
             counts: Counts {
-                last: 0,
+                last: NO_RANK,
                 breaks: 0,
                 objects: 0,
                 bonus: 0,
@@ -75,47 +81,47 @@ impl Reader {
     }
 }
 
-// The place of a mark in the order of the records, and 0 for an unknown one.
+// The place of a mark.
 pub fn rank_of(mark: u64) -> u8
     ensures { λ r. ⌜ r ≡ rankOf mark ⌝ }
 {
     if mark == MH {
-        return 1;
+        return HEADER_RANK;
     }
     if mark == BR {
-        return 2;
+        return BREAK_RANK;
     }
     if mark == hit_object::CI {
-        return 3;
+        return OBJECT_RANK;
     }
     if mark == hit_object::SL {
-        return 3;
+        return OBJECT_RANK;
     }
     if mark == hit_object::SP {
-        return 3;
+        return OBJECT_RANK;
     }
     if mark == PL {
-        return 4;
+        return PLAY_RANK;
     }
-    0
+    NO_RANK
 }
 
 fn in_order(last: u8, rank: u8) -> bool
     ensures { λ r. ⌜ r ≡ inOrder last rank ⌝ }
 {
-    if rank <= 1 {
-        return rank == 1 && last == 0;
+    if rank <= HEADER_RANK {
+        return rank == HEADER_RANK && last == NO_RANK;
     }
-    0 < last && last <= rank
+    NO_RANK < last && last <= rank
 }
 
 fn is_full(c: Counts, rank: u8) -> bool
     ensures { λ r. ⌜ r ≡ isFull c rank ⌝ }
 {
-    if rank == 2 {
+    if rank == BREAK_RANK {
         return BreakPeriod::MAX_COUNT <= c.breaks;
     }
-    if rank == 3 {
+    if rank == OBJECT_RANK {
         return HitObject::MAX_COUNT <= c.objects;
     }
     false
@@ -158,10 +164,10 @@ fn bonus_of(item: Record) -> u64
 fn is_over_bonus(c: Counts, bonus: u64) -> bool
     ensures { λ r. ⌜ r ≡ overBonus c bonus ⌝ }
 {
-    if Counts::MAX_BONUS < bonus {
+    if HitObject::MAX_BONUS < bonus {
         return true;
     }
-    Counts::MAX_BONUS - bonus < c.bonus
+    HitObject::MAX_BONUS - bonus < c.bonus
 }
 
 // The record that the rest of a file starts with, by all checks of one record in their order.
@@ -169,21 +175,21 @@ fn read_next(r: &[u8], c: Counts) -> Read
     ensures { λ x. ⌜ x ≡ readOf (recordOf (now (r .entry)) c) ⌝ }
 {
     if r.len() < 2 {
-        return Read::Refused(2);
+        return Read::Refused(refusal::CUT);
     }
     let mark = word_at(r, 0, 2);
     let rank = rank_of(mark);
     if !in_order(c.last, rank) {
-        return Read::Refused(3);
+        return Read::Refused(refusal::MARK);
     }
     if is_full(c, rank) {
-        return Read::Refused(6);
+        return Read::Refused(refusal::COUNT);
     }
     match read_body(r, mark) {
         Read::Refused(number) => Read::Refused(number),
         Read::Good(item, size) => {
             if is_over_bonus(c, bonus_of(item)) {
-                return Read::Refused(7);
+                return Read::Refused(refusal::BONUS);
             }
             Read::Good(item, size)
         }
@@ -196,19 +202,25 @@ fn count(c: Counts, item: Record) -> Counts
     ensures { λ r. ⌜ r ≡ countedIn c item ⌝ }
 {
     match item {
-        Record::Header(_) => Counts { last: 1, ..c },
+        Record::Header(_) => Counts {
+            last: HEADER_RANK,
+            ..c
+        },
         Record::Break(_) => Counts {
-            last: 2,
+            last: BREAK_RANK,
             breaks: c.breaks + 1,
             ..c
         },
         Record::Object(_) => Counts {
-            last: 3,
+            last: OBJECT_RANK,
             breaks: c.breaks,
             objects: c.objects + 1,
             bonus: c.bonus + bonus_of(item),
         },
-        Record::Play(_) => Counts { last: 4, ..c },
+        Record::Play(_) => Counts {
+            last: PLAY_RANK,
+            ..c
+        },
     }
 }
 
@@ -232,7 +244,7 @@ pub fn read_record(s: &[u8], reader: Reader) -> Step
     let counts = reader.counts;
     if s.len() <= at {
         return Step::Refused {
-            number: 2,
+            number: refusal::CUT,
             offset: at,
         };
     }
@@ -264,24 +276,11 @@ pub fn read_map(s: &[u8]) -> Answer
             }
         }
     }
-    if reader.counts.last == 0 {
+    if reader.counts.last == NO_RANK {
         return Answer::Refused {
-            number: 3,
+            number: refusal::MARK,
             offset: 0,
         };
     }
     Answer::Map(reader)
-}
-
-// The program's input: as a map file, unless it is too long.
-pub fn read_program_input(s: &[u8]) -> Answer
-    ensures { λ r. ⌜ r ≡ programAnswerOf (now (s .entry)) ⌝ }
-{
-    if Reader::MAX_PROGRAM_INPUT < s.len() {
-        return Answer::Refused {
-            number: 1,
-            offset: 0,
-        };
-    }
-    read_map(s)
 }

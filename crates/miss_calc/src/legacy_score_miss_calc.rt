@@ -1,10 +1,10 @@
 // `OsuLegacyScoreMissCalculator`: how many misses a ScoreV1 score tells of.
-use crate::counts::least;
-use crate::counts::monus;
 use crate::counts::total_hits;
 use crate::counts::total_imperfect_hits;
 use numbers::minmax::max;
 use numbers::minmax::min;
+use numbers::naturals::least;
+use numbers::naturals::monus;
 use numbers::rounding::float;
 use records::play::GameMods;
 use records::play::LegacyTotalScore;

@@ -2,6 +2,7 @@
 use mathlib.Core.Path.{_≡_, refl}
 use mathlib.Core.Bool.{false}
 use mathlib.Core.List.{[], _∷_, map}
+use Prim.Native.Nat.{_-_, _^_}
 use lib.IntN.{pos, negsuc}
 use lib.Ieee.{nan, inf, binary64, lt, isNan, neg, ofInt, round, toBits, toUnsigned}
 use Rattle.numbers.specs.Floats.{whole, part}
@@ -11,12 +12,12 @@ use Rattle.numbers.specs.Words.{wordAt, bytesOf}
 
 -- 0.5, 1.5, 2.5, -0.5, -1.5 and -2 ^ 40
 ties : map roundTiesEvenI32 (part 1 2 ∷ part 3 2 ∷ part 5 2 ∷ neg (part 1 2) ∷ neg (part 3 2) ∷ neg (whole 0x100_0000_0000) ∷ [])
-    ≡ pos 0 ∷ pos 2 ∷ pos 2 ∷ pos 0 ∷ negsuc 1 ∷ negsuc 2147483647 ∷ []
+    ≡ pos 0 ∷ pos 2 ∷ pos 2 ∷ pos 0 ∷ negsuc 1 ∷ negsuc (2 ^ 31 - 1) ∷ []
 unfolding roundTiesEvenI32 neg ofInt round
 ties = refl
 
 -- 1.99, -3 and an infinity, cut
-cuts : map (toUnsigned 31) (part 199 100 ∷ neg (whole 3) ∷ inf false ∷ []) ≡ 1 ∷ 0 ∷ 2147483647 ∷ []
+cuts : map (toUnsigned 31) (part 199 100 ∷ neg (whole 3) ∷ inf false ∷ []) ≡ 1 ∷ 0 ∷ (2 ^ 31 - 1) ∷ []
 unfolding toUnsigned neg ofInt round
 cuts = refl
 

@@ -35,12 +35,6 @@ pub fn f32_from_bits(bits: u32) -> f32
     }
 }
 
-pub fn f32_to_bits(x: f32) -> u32
-    ensures { λ r. ⌜ r ≡ toBits binary32 x ⌝ }
-{
-    if x != x { 0x7fc0_0000 } else { f32::to_bits(x) }
-}
-
 // The exact widening: the definitions have one type for both formats, so the value is the same.
 pub fn f32_to_f64(x: f32) -> f64
     ensures { λ r. ⌜ r ≡ x ⌝ }

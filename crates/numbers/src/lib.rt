@@ -2,5 +2,6 @@
 // Every public function is total, and its contract names the definition of specs/ that its result equals.
 pub mod bits;
 pub mod minmax;
+pub mod naturals;
 pub mod rounding;
 pub mod words;

@@ -8,6 +8,11 @@ ghost use lib.Ieee.Nearest.{closest};
 ghost use Rattle.numbers.specs.Floats.{whole};
 ghost use Rattle.numbers.specs.Rounding.{roundTiesEvenI32, saturated};
 
+const I32_MAX: u64 = 2147483647;
+
+// 2 ^ 31, the first whole number that no i32 holds.
+const I32_LIMIT: u64 = I32_MAX + 1;
+
 // The whole number nearest to significand / 2 ^ shift, the even one of two that are as near.
 fn shift_ties_even(significand: u64, shift: u64) -> u64
     requires { ⌜ significand < 2 ^ 53 ⌝ }
@@ -34,23 +39,23 @@ fn magnitude(significand: u64, exponent: u64) -> u64
     ensures { λ r. ⌜ r ≡ min (closest (significand * 2 ^ exponent) (2 ^ 1074)) (2 ^ 31) ⌝ }
 {
     if exponent >= 1074 {
-        return 2147483648;
+        return I32_LIMIT;
     }
     let n = shift_ties_even(significand, 1074 - exponent);
-    if n > 2147483648 { 2147483648 } else { n }
+    if n > I32_LIMIT { I32_LIMIT } else { n }
 }
 
 fn saturate_i32(negative: bool, n: u64) -> i32
     ensures { λ r. ⌜ r ≡ saturated negative n ⌝ }
 {
     if negative {
-        if n >= 2147483648 {
-            return -2147483648;
+        if n >= I32_LIMIT {
+            return i32::MIN;
         }
         return -(n as i32);
     }
-    if n >= 2147483648 {
-        return 2147483647;
+    if n >= I32_LIMIT {
+        return i32::MAX;
     }
     n as i32
 }
@@ -62,7 +67,7 @@ pub fn round_ties_even_i32(x: f64) -> i32
     let parts = split(x);
     match parts {
         Parts::NotANumber => 0,
-        Parts::Infinite { negative } => saturate_i32(negative, 2147483648),
+        Parts::Infinite { negative } => saturate_i32(negative, I32_LIMIT),
         Parts::Finite {
             negative,
             significand,
@@ -79,7 +84,7 @@ pub fn cut(x: f64) -> u64
         if x < 2147483648.0 {
             std::num::truncating_f64_to_u64(x)
         } else {
-            2147483647
+            I32_MAX
         }
     } else {
         0

@@ -4,7 +4,8 @@ ghost use Prim.Native.Nat.{_+_, _≤_, _<_, _^_, min};
 ghost use lib.ListN.{length};
 ghost use Rattle.numbers.specs.Words.{wordAt};
 
-fn wide(b: u8) -> u64
+// The byte as a number: an index and a cast in one place ask for less proof each.
+pub fn wide(b: u8) -> u64
     ensures { λ r. ⌜ r ≡ b ⌝ }
 {
     b as u64

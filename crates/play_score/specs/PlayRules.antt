@@ -4,7 +4,8 @@ use Prim.Native.Nat.{ℕ}
 use mathlib.Core.Bool.{Bool, true, false, not, _&&_, _||_}
 use lib.Dec.{eqb, ltb}
 use lib.Ieee.{binary64, ofBits, lt, le}
-use Rattle.records.specs.Refusals.{Checked, good, refused, _>>=_, _>>_, refuse_when_}
+use Rattle.records.specs.Fields.{isRate}
+use Rattle.records.specs.Refusals.{Checked, good, refused, _>>=_, _>>_, refuse_when_, PLAY-FIELD, PLAY-EXCEEDS, PLAY-COMBO}
 use Rattle.records.specs.Play.{flagsBad}
 use Rattle.records.specs.declared.play.GameMods.{GameMods}
 use Rattle.records.specs.declared.play.LegacyTotalScore.{LegacyTotalScore}
@@ -26,7 +27,7 @@ use Rattle.play_score.specs.declared.GivenPlay.the-variants as given
 
 -- "8: a play field is out of range": "higher bits are 0"; "clock rate f64 above 0 and at most 100"
 unfoldable pub modsBad : GameMods → Bool
-modsBad m = flagsBad (m .flags) || not (lt (ofBits binary64 0) (m .«clock_rate») && le (m .«clock_rate») (ofBits binary64 0x4059000000000000))
+modsBad m = flagsBad (m .flags) || not (isRate (m .«clock_rate»))
 
 -- "or, for origin 1 only, slider end hits exceed sliders or large tick hits exceed ticks plus repeats"
 unfoldable pub hitsExceed : OsuHitResults → OsuScoreOrigin → OsuDifficultyAttributes → Bool
@@ -54,8 +55,8 @@ overCombo p a = isDue p && ltb 46341 (a .«max_combo»)
 -- "9: a play exceeds its map"; "a play then 9 and 10"
 unfoldable pub playScore : Play → ScoreAttributes → Checked PlayScore
 playScore p a = do
-  refuse 9 when exceeds p a
-  refuse 10 when overCombo p (a .difficulty)
+  refuse PLAY-EXCEEDS when exceeds p a
+  refuse PLAY-COMBO when overCombo p (a .difficulty)
   good (record { attributes = a; estimates = estimatesOf p (a .difficulty) })
 
 -- the answer of a play on attributes: the values, or the number
@@ -74,5 +75,5 @@ givenAnswer x = givenOf (scoredOf x)
 -- "The checks of one record run: .. fixed fields in layout order (4 or 8 ..) ..; a play then 9 and 10"
 unfoldable pub givenScore : Play → ScoreAttributes → Checked PlayScore
 givenScore p a = do
-  refuse 8 when modsBad (p .mods)
+  refuse PLAY-FIELD when modsBad (p .mods)
   playScore p a

@@ -4,12 +4,14 @@ use estimates::calculator::calculate;
 use estimates::calculator::is_classic;
 use estimates::score_state::large_ticks;
 use miss_calc::counts::total_hits;
+use records::fields::is_rate;
 use records::play::GameMods;
 use records::play::LegacyTotalScore;
 use records::play::OsuHitResults;
 use records::play::OsuScoreOrigin;
 use records::play::Play;
 use records::play::has_unknown_flags;
+use records::refusal;
 use simulator::attributes::OsuDifficultyAttributes;
 use simulator::attributes::ScoreAttributes;
 ghost use mathlib.Core.Path.{_≡_};
@@ -44,12 +46,7 @@ pub fn has_bad_mods(mods: GameMods) -> bool
     if has_unknown_flags(mods.flags) {
         return true;
     }
-    if mods.clock_rate > 0.0 {
-        if mods.clock_rate <= 100.0 {
-            return false;
-        }
-    }
-    true
+    !is_rate(mods.clock_rate)
 }
 
 // Origin 1 counts slider ends and large ticks; the others' hits are capped by the accuracy.
@@ -120,10 +117,10 @@ pub fn score_on(play: Play, a: ScoreAttributes) -> Scored
 {
     let difficulty = a.difficulty;
     if exceeds_map(play, a) {
-        return Scored::Refused(9);
+        return Scored::Refused(refusal::PLAY_EXCEEDS);
     }
     if is_over_combo(play, difficulty) {
-        return Scored::Refused(10);
+        return Scored::Refused(refusal::PLAY_COMBO);
     }
     Scored::Score(PlayScore {
         attributes: a,
@@ -148,7 +145,7 @@ pub fn score_given(play: Play, a: ScoreAttributes) -> GivenPlay
     let mods = play.mods;
     if has_bad_mods(mods) {
         return GivenPlay::Refused {
-            number: 8,
+            number: refusal::PLAY_FIELD,
             offset: 0,
         };
     }

@@ -46,7 +46,7 @@ pub extern "C" fn pjp_board_words(count: usize) -> usize
     if (HitObject::MAX_COUNT as usize) < count {
         return 0;
     }
-    2 * Entry::WORDS * size_of(count).cap
+    Entry::PLACE_WORDS * size_of(count).cap
 }
 
 // What a map file holds, by the checks of its records; 9 and 10 of its plays are left to the calls that score.

@@ -1,4 +1,5 @@
 pub mod Refusals
+pub mod Limits
 pub mod Fields
 pub mod Objects
 pub mod Play

@@ -4,7 +4,7 @@ use mathlib.Core.Bool.{Bool, not}
 use mathlib.Core.List.{List}
 use lib.Dec.{eqb}
 use Rattle.numbers.specs.Words.{wordAt}
-use Rattle.records.specs.Refusals.{Checked, good, refused, pick}
+use Rattle.records.specs.Refusals.{Checked, good, refused, pick, PLAY-FIELD}
 use Rattle.records.specs.declared.play.OsuHitResults.{OsuHitResults}
 use Rattle.records.specs.declared.play.OsuScoreOrigin.{OsuScoreOrigin}
 use Rattle.records.specs.declared.play.OsuScoreOrigin.the-variants.{Stable, WithSliderAcc, WithoutSliderAcc}
@@ -46,8 +46,8 @@ hitresultsOf r = record {
 -- "8: a play field is out of range"
 abbrev pub originChecked : Origin → Checked OsuScoreOrigin
 originChecked (origin.Is o) = good o
-originChecked origin.Bad = refused 8
+originChecked origin.Bad = refused PLAY-FIELD
 
 abbrev pub scoreChecked : Score → Checked LegacyTotalScore
 scoreChecked (score.Is s) = good s
-scoreChecked score.Bad = refused 8
+scoreChecked score.Bad = refused PLAY-FIELD

@@ -6,8 +6,9 @@ use mathlib.Core.List.{List, [], _∷_}
 use lib.Dec.{eqb, ltb}
 use lib.ListN.{take, drop}
 use lib.Ieee.{Float}
+use Rattle.records.specs.Limits.{maxNested, headerSize, breakSize, circleSize, sliderSize, spinnerSize, playSize}
 use Rattle.numbers.specs.Words.{wordAt}
-use Rattle.records.specs.Refusals.{Checked, good, refused, _>>=_, _>>_, refuse_when_, pick}
+use Rattle.records.specs.Refusals.{Checked, good, refused, _>>=_, _>>_, refuse_when_, pick, CUT, MARK, NESTED, COUNT, PLAY-FIELD}
 use Rattle.records.specs.Fields.{cut, timeOf, durationOf, rateOf, settingOf, timed, set, played}
 use Rattle.records.specs.Objects.{Item, tick, repeat, circle, slider, spinner, Object, sliderView, objectView}
 use Rattle.records.specs.Play.{originOf, scoreOf, flagsBad, hitresultsOf, originChecked, scoreChecked}
@@ -35,35 +36,35 @@ Found = Checked (Content × ℕ)
 -- "MH: hp, od, cs"
 unfoldable pub headerOf : List ℕ → Found
 headerOf r = do
-  refuse 2 when cut r 14
+  refuse CUT when cut r headerSize
   hp ← set (settingOf (wordAt r 2 4))
   od ← set (settingOf (wordAt r 6 4))
   cs ← set (settingOf (wordAt r 10 4))
-  good (header (record { hp = hp; od = od; cs = cs }), 14)
+  good (header (record { hp = hp; od = od; cs = cs }), headerSize)
 
 -- "BR: start and end, f64"
 unfoldable pub breakOf : List ℕ → Found
 breakOf r = do
-  refuse 2 when cut r 18
+  refuse CUT when cut r breakSize
   start ← timed (timeOf (wordAt r 2 8))
   end ← timed (timeOf (wordAt r 10 8))
-  good (break (record { «start_time» = start; «end_time» = end }), 18)
+  good (break (record { «start_time» = start; «end_time» = end }), breakSize)
 
 -- "CI: circle, start f64"
 unfoldable pub circleOf : List ℕ → Found
 circleOf r = do
-  refuse 2 when cut r 10
+  refuse CUT when cut r circleSize
   start ← timed (timeOf (wordAt r 2 8))
-  good (object (record { start = start; kind = circle }), 10)
+  good (object (record { start = start; kind = circle }), circleSize)
 
 -- "0 tick, 1 repeat, 2 tail"
 abbrev pub itemOf : ℕ → Checked Item
-itemOf b = pick (eqb b 0) (good tick) (pick (eqb b 1) (good repeat) (refused 5))
+itemOf b = pick (eqb b 0) (good tick) (pick (eqb b 1) (good repeat) (refused NESTED))
 
 -- "The last byte is the only tail; count 0 is refused (5)": the items before the tail
 unfoldable pub nestedOf : List ℕ → Checked (List Item)
-nestedOf [] = refused 5
-nestedOf (b ∷ []) = pick (eqb b 2) (good []) (refused 5)
+nestedOf [] = refused NESTED
+nestedOf (b ∷ []) = pick (eqb b 2) (good []) (refused NESTED)
 nestedOf (b ∷ c ∷ bs) = do
   item ← itemOf b
   items ← nestedOf (c ∷ bs)
@@ -72,28 +73,28 @@ nestedOf (b ∷ c ∷ bs) = do
 -- "SL: slider, start f64, count u16, then count bytes"; "more than 1,000 nested items" is 6
 unfoldable pub sliderOf : List ℕ → Found
 sliderOf r = do
-  refuse 2 when cut r 12
+  refuse CUT when cut r sliderSize
   start ← timed (timeOf (wordAt r 2 8))
-  refuse 6 when ltb 1000 (wordAt r 10 2)
-  refuse 2 when cut r (12 + wordAt r 10 2)
-  items ← nestedOf (take (wordAt r 10 2) (drop 12 r))
-  good (object (record { start = start; kind = slider items }), 12 + wordAt r 10 2)
+  refuse COUNT when ltb maxNested (wordAt r 10 2)
+  refuse CUT when cut r (sliderSize + wordAt r 10 2)
+  items ← nestedOf (take (wordAt r 10 2) (drop sliderSize r))
+  good (object (record { start = start; kind = slider items }), sliderSize + wordAt r 10 2)
 
 -- "SP: spinner, start f64, duration f64"
 unfoldable pub spinnerOf : List ℕ → Found
 spinnerOf r = do
-  refuse 2 when cut r 18
+  refuse CUT when cut r spinnerSize
   start ← timed (timeOf (wordAt r 2 8))
   duration ← timed (durationOf (wordAt r 10 8))
-  good (object (record { start = start; kind = spinner duration }), 18)
+  good (object (record { start = start; kind = spinner duration }), spinnerSize)
 
 -- "PL, 42 bytes after the mark": passed, max combo and the hits have no range of their own
 unfoldable pub playOf : List ℕ → Found
 playOf r = do
-  refuse 2 when cut r 44
+  refuse CUT when cut r playSize
   origin ← originChecked (originOf (wordAt r 28 1))
   score ← scoreChecked (scoreOf (wordAt r 29 1) (wordAt r 30 4))
-  refuse 8 when flagsBad (wordAt r 34 2)
+  refuse PLAY-FIELD when flagsBad (wordAt r 34 2)
   rate ← played (rateOf (wordAt r 36 8))
   good (
     play (record {
@@ -104,7 +105,7 @@ playOf r = do
       «legacy_total_score» = score;
       mods = record { flags = wordAt r 34 2; «clock_rate» = rate };
     }),
-    44,
+    playSize,
   )
 
 -- ---- what the code keeps
@@ -134,4 +135,4 @@ SP = 0x5053
 
 -- the object behind a mark
 unfoldable pub objectOf : List ℕ → ℕ → Found
-objectOf r mark = pick (eqb mark CI) (circleOf r) (pick (eqb mark SL) (sliderOf r) (pick (eqb mark SP) (spinnerOf r) (refused 3)))
+objectOf r mark = pick (eqb mark CI) (circleOf r) (pick (eqb mark SL) (sliderOf r) (pick (eqb mark SP) (spinnerOf r) (refused MARK)))

@@ -26,3 +26,57 @@ refuse n when false = good tt
 abbrev pub pick : {A : Type 0} → Bool → A → A → A
 pick true a b = a
 pick false a b = b
+
+-- ---- document 01, "Returned | Given when, and only when"
+-- "the program's input is above 65,536 bytes (the library has no such limit)"
+abbrev pub INPUT : ℕ
+INPUT = 1
+
+-- "the input ends inside a record, or one byte is left for a mark"
+abbrev pub CUT : ℕ
+CUT = 2
+
+-- "a mark is unknown or out of order, or the input is empty; in an edit also, checked last, if bytes follow the object's record"
+abbrev pub MARK : ℕ
+MARK = 3
+
+-- "a time, setting or duration is not finite or out of range"
+abbrev pub RANGE : ℕ
+RANGE = 4
+
+-- "a slider's nested list is wrong"
+abbrev pub NESTED : ℕ
+NESTED = 5
+
+-- "a 129th break, an 8,193rd object, or more than 1,000 nested items"
+abbrev pub COUNT : ℕ
+COUNT = 6
+
+-- "the legacy bonus of all objects is above 2,147,483,647"
+abbrev pub BONUS : ℕ
+BONUS = 7
+
+-- "a play field is out of range"
+abbrev pub PLAY-FIELD : ℕ
+PLAY-FIELD = 8
+
+-- "a play exceeds its map"
+abbrev pub PLAY-EXCEEDS : ℕ
+PLAY-EXCEEDS = 9
+
+-- "a score-based estimate is due and the passed objects' max combo is above 46,341"
+abbrev pub PLAY-COMBO : ℕ
+PLAY-COMBO = 10
+
+-- "the board has fewer than 26 × C words, or the start table fewer numbers than objects"
+abbrev pub ROOM : ℕ
+ROOM = 11
+
+-- "an edited place is not below the object count"
+abbrev pub PLACE : ℕ
+PLACE = 12
+
+-- "a board word or start time that the call reads is outside its limits, a combined word is above its limit, or a read's combined k is below
+-- 2 × sliders or its s + f below q"
+abbrev pub BOARD : ℕ
+BOARD = 13

@@ -4,6 +4,7 @@ use crate::fields::Double;
 use crate::fields::Single;
 use crate::record::Read;
 use crate::record::Record;
+use crate::refusal;
 ghost use mathlib.Core.Path.{_≡_};
 ghost use Rattle.records.specs.Records.{readOf, headerOf, breakOf};
 
@@ -13,6 +14,11 @@ pub struct Settings {
     pub cs: f32,
 }
 
+impl Settings {
+    // The bytes of the record, its mark included; so in the other records.
+    pub const SIZE: usize = 14;
+}
+
 pub struct BreakPeriod {
     pub start_time: f64,
     pub end_time: f64,
@@ -20,43 +26,45 @@ pub struct BreakPeriod {
 
 impl BreakPeriod {
     pub const MAX_COUNT: u64 = 128;
+
+    pub const SIZE: usize = 18;
 }
 
 pub fn read_header(r: &[u8]) -> Read
     ensures { λ x. ⌜ x ≡ readOf (headerOf (now (r .entry))) ⌝ }
 {
-    if r.len() < 14 {
-        return Read::Refused(2);
+    if r.len() < Settings::SIZE {
+        return Read::Refused(refusal::CUT);
     }
     let Single::Is(hp) = fields::setting_at(r, 2) else {
-        return Read::Refused(4);
+        return Read::Refused(refusal::RANGE);
     };
     let Single::Is(od) = fields::setting_at(r, 6) else {
-        return Read::Refused(4);
+        return Read::Refused(refusal::RANGE);
     };
     let Single::Is(cs) = fields::setting_at(r, 10) else {
-        return Read::Refused(4);
+        return Read::Refused(refusal::RANGE);
     };
-    Read::Good(Record::Header(Settings { hp, od, cs }), 14)
+    Read::Good(Record::Header(Settings { hp, od, cs }), Settings::SIZE)
 }
 
 pub fn read_break(r: &[u8]) -> Read
     ensures { λ x. ⌜ x ≡ readOf (breakOf (now (r .entry))) ⌝ }
 {
-    if r.len() < 18 {
-        return Read::Refused(2);
+    if r.len() < BreakPeriod::SIZE {
+        return Read::Refused(refusal::CUT);
     }
     let Double::Is(start_time) = fields::time_at(r, 2) else {
-        return Read::Refused(4);
+        return Read::Refused(refusal::RANGE);
     };
     let Double::Is(end_time) = fields::time_at(r, 10) else {
-        return Read::Refused(4);
+        return Read::Refused(refusal::RANGE);
     };
     Read::Good(
         Record::Break(BreakPeriod {
             start_time,
             end_time,
         }),
-        18,
+        BreakPeriod::SIZE,
     )
 }

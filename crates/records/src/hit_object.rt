@@ -3,6 +3,8 @@ use crate::fields;
 use crate::fields::Double;
 use crate::record::Read;
 use crate::record::Record;
+use crate::refusal;
+use numbers::words::wide;
 use numbers::words::word_at;
 ghost use mathlib.Core.Path.{_≡_};
 ghost use Prim.Native.Nat.{_<_};
@@ -42,17 +44,21 @@ pub struct HitObject {
 
 impl HitObject {
     pub const MAX_COUNT: u64 = 8192;
+
+    // The most legacy bonus of all objects.
+    pub const MAX_BONUS: u64 = 2147483647;
+
+    pub const CIRCLE_SIZE: usize = 10;
+
+    // Before its nested items.
+    pub const SLIDER_SIZE: usize = 12;
+
+    pub const SPINNER_SIZE: usize = 18;
 }
 
 pub enum Nested {
     Counts(Slider),
     Wrong,
-}
-
-fn wide(b: u8) -> u64
-    ensures { λ r. ⌜ r ≡ b ⌝ }
-{
-    b as u64
 }
 
 // One test and one counter for an item: before the tail an item is its own count of repeats.
@@ -85,40 +91,40 @@ fn count_nested(items: &[u8]) -> Nested
 pub fn read_circle(r: &[u8]) -> Read
     ensures { λ x. ⌜ x ≡ readOf (circleOf (now (r .entry))) ⌝ }
 {
-    if r.len() < 10 {
-        return Read::Refused(2);
+    if r.len() < HitObject::CIRCLE_SIZE {
+        return Read::Refused(refusal::CUT);
     }
     let Double::Is(start_time) = fields::time_at(r, 2) else {
-        return Read::Refused(4);
+        return Read::Refused(refusal::RANGE);
     };
     Read::Good(
         Record::Object(HitObject {
             start_time,
             kind: HitObjectKind::Circle,
         }),
-        10,
+        HitObject::CIRCLE_SIZE,
     )
 }
 
 pub fn read_slider(r: &[u8]) -> Read
     ensures { λ x. ⌜ x ≡ readOf (sliderOf (now (r .entry))) ⌝ }
 {
-    if r.len() < 12 {
-        return Read::Refused(2);
+    if r.len() < HitObject::SLIDER_SIZE {
+        return Read::Refused(refusal::CUT);
     }
     let Double::Is(start_time) = fields::time_at(r, 2) else {
-        return Read::Refused(4);
+        return Read::Refused(refusal::RANGE);
     };
     let count = word_at(r, 10, 2);
     if Slider::MAX_NESTED < count {
-        return Read::Refused(6);
+        return Read::Refused(refusal::COUNT);
     }
-    let end = 12 + count as usize;
+    let end = HitObject::SLIDER_SIZE + count as usize;
     if r.len() < end {
-        return Read::Refused(2);
+        return Read::Refused(refusal::CUT);
     }
-    let Nested::Counts(slider) = count_nested(&r[12..end]) else {
-        return Read::Refused(5);
+    let Nested::Counts(slider) = count_nested(&r[HitObject::SLIDER_SIZE..end]) else {
+        return Read::Refused(refusal::NESTED);
     };
     Read::Good(
         Record::Object(HitObject {
@@ -132,21 +138,21 @@ pub fn read_slider(r: &[u8]) -> Read
 pub fn read_spinner(r: &[u8]) -> Read
     ensures { λ x. ⌜ x ≡ readOf (spinnerOf (now (r .entry))) ⌝ }
 {
-    if r.len() < 18 {
-        return Read::Refused(2);
+    if r.len() < HitObject::SPINNER_SIZE {
+        return Read::Refused(refusal::CUT);
     }
     let Double::Is(start_time) = fields::time_at(r, 2) else {
-        return Read::Refused(4);
+        return Read::Refused(refusal::RANGE);
     };
     let Double::Is(duration) = fields::duration_at(r, 10) else {
-        return Read::Refused(4);
+        return Read::Refused(refusal::RANGE);
     };
     Read::Good(
         Record::Object(HitObject {
             start_time,
             kind: HitObjectKind::Spinner(Spinner { duration }),
         }),
-        18,
+        HitObject::SPINNER_SIZE,
     )
 }
 
@@ -163,5 +169,5 @@ pub fn read_object(r: &[u8], mark: u64) -> Read
     if mark == SP {
         return read_spinner(r);
     }
-    Read::Refused(3)
+    Read::Refused(refusal::MARK)
 }

@@ -3,4 +3,5 @@ pub mod beatmap; // settings and breaks
 pub mod fields; // floats of a record and their ranges
 pub mod hit_object; // circles, sliders, spinners
 pub mod play;
+pub mod refusal; // the numbers of the rules
 pub mod record; // what reading one record answers

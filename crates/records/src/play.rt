@@ -3,6 +3,7 @@ use crate::fields;
 use crate::fields::Double;
 use crate::record::Read;
 use crate::record::Record;
+use crate::refusal;
 use numbers::words::word_at;
 ghost use mathlib.Core.Path.{_≡_};
 ghost use Prim.Native.Nat.{_<_};
@@ -43,6 +44,10 @@ pub struct Play {
     pub origin: OsuScoreOrigin,
     pub legacy_total_score: LegacyTotalScore,
     pub mods: GameMods,
+}
+
+impl Play {
+    pub const SIZE: usize = 44;
 }
 
 // The bit at a place below 16.
@@ -174,21 +179,21 @@ fn hitresults_of(r: &[u8]) -> OsuHitResults
 pub fn read_play(r: &[u8]) -> Read
     ensures { λ x. ⌜ x ≡ readOf (playOf (now (r .entry))) ⌝ }
 {
-    if r.len() < 44 {
-        return Read::Refused(2);
+    if r.len() < Play::SIZE {
+        return Read::Refused(refusal::CUT);
     }
     let Origin::Is(origin) = origin_of(word_at(r, 28, 1)) else {
-        return Read::Refused(8);
+        return Read::Refused(refusal::PLAY_FIELD);
     };
     let Score::Is(legacy_total_score) = score_of(word_at(r, 29, 1), word_at(r, 30, 4) as u32) else {
-        return Read::Refused(8);
+        return Read::Refused(refusal::PLAY_FIELD);
     };
     let flags = word_at(r, 34, 2) as u16;
     if has_unknown_flags(flags) {
-        return Read::Refused(8);
+        return Read::Refused(refusal::PLAY_FIELD);
     }
     let Double::Is(clock_rate) = fields::rate_at(r, 36) else {
-        return Read::Refused(8);
+        return Read::Refused(refusal::PLAY_FIELD);
     };
     Read::Good(
         Record::Play(Play {
@@ -199,6 +204,6 @@ pub fn read_play(r: &[u8]) -> Read
             legacy_total_score,
             mods: GameMods { flags, clock_rate },
         }),
-        44,
+        Play::SIZE,
     )
 }

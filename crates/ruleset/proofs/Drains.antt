@@ -8,6 +8,7 @@ use lib.Signed.{mag}
 use lib.Ieee.{Float, nan, inf, fin, up, down, lt}
 use lib.Ieee.Nearest.{closest}
 use lib.ListN.{length, take, length-take}
+use Rattle.records.specs.Limits.{maxBreaks}
 use Rattle.numbers.specs.Rounding.{saturated, roundTiesEvenI32}
 use Rattle.records.specs.Refusals.{pick}
 use Rattle.records.specs.Objects.{Object}
@@ -48,7 +49,7 @@ breaks-small last (b ∷ bs) = go (lt (b .«end_time») last) (breaks-small last
         let sum = mag-add (lengthOf (b .«start_time») (b .«end_time»)) (breaksLength last bs) in
         omega (arith, sum, h, length-small (b .«start_time») (b .«end_time»))
 
-drain-small : (bs : List BreakPeriod) (os : List Object) (p : ℕ) → length bs ≤ 128 → mag (drainAt bs os p) < 2 ^ 53
+drain-small : (bs : List BreakPeriod) (os : List Object) (p : ℕ) → length bs ≤ maxBreaks → mag (drainAt bs os p) < 2 ^ 53
 unfolding drainAt
 drain-small bs [] p h = omega arith
 drain-small bs (o ∷ os) p h =

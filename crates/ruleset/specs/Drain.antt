@@ -5,6 +5,7 @@ use lib.IntN.{ℤ, pos, _+ℤ_, _-ℤ_}
 use lib.Signed.{quotZ}
 use lib.ListN.{length}
 use lib.Ieee.{Float, binary64, lt, ofBits}
+use Rattle.records.specs.Limits.{headerSize, breakSize}
 use Rattle.numbers.specs.Floats.{whole}
 use Rattle.numbers.specs.Rounding.{roundTiesEvenI32}
 use Rattle.numbers.specs.Words.{wordAt}
@@ -48,11 +49,11 @@ breaksOf [] = []
 breaksOf (a ∷ []) = []
 breaksOf (a ∷ b ∷ xs) = record { «start_time» = a; «end_time» = b } ∷ breaksOf xs
 
--- the break records of a map file from an offset on; the first stands behind the header's 14 bytes, and each has 18
+-- the break records of a map file from an offset on; the first stands behind the header
 unfoldable pub breaksFrom : List ℕ → ℕ → ℕ → List BreakPeriod
 breaksFrom s at zero = []
 breaksFrom s at (suc n) =
-    record { «start_time» = ofBits binary64 (wordAt s (at + 2) 8); «end_time» = ofBits binary64 (wordAt s (at + 10) 8) } ∷ breaksFrom s (at + 18) n
+    record { «start_time» = ofBits binary64 (wordAt s (at + 2) 8); «end_time» = ofBits binary64 (wordAt s (at + 10) 8) } ∷ breaksFrom s (at + breakSize) n
 
 abbrev pub breaksIn : List ℕ → ℕ → List BreakPeriod
-breaksIn s count = breaksFrom s 14 count
+breaksIn s count = breaksFrom s headerSize count

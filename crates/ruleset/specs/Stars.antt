@@ -5,6 +5,7 @@ use mathlib.Core.Bool.{true}
 use lib.IntN.{ℤ, pos, negsuc, natAbs}
 use lib.ListN.{length, take}
 use lib.Ieee.{Float, binary32, binary64, ofBits, ofInt, le}
+use Rattle.records.specs.Fields.{settingLimit}
 use Rattle.numbers.specs.Floats.{whole, _⊕_, _⊗_, _⊘_}
 use Rattle.numbers.specs.MinMax.{clampOf}
 use Rattle.numbers.specs.Rounding.{roundTiesEvenI32}
@@ -24,7 +25,7 @@ starsOf s count drain = roundTiesEvenI32 ((s .hp ⊕ s .od ⊕ s .cs ⊕ ratioOf
 
 -- "three floats of 32 bits, each from 0 to 12"
 abbrev pub SettingIn : Float → Type 0
-SettingIn x = (le (ofBits binary32 0) x ≡ true) × (le x (ofBits binary32 0x41400000) ≡ true)
+SettingIn x = (le (ofBits binary32 0) x ≡ true) × (le x settingLimit ≡ true)
 
 pub record SettingsIn (s : Settings) : Type 0 where
   pub hp : SettingIn (s .hp)

@@ -3,19 +3,16 @@ use crate::ruleset_ext::calculate_difficulty_peppy_stars;
 use numbers::bits::f64_from_bits;
 use numbers::rounding::round_ties_even_i32;
 use numbers::words::word_at;
+use records::beatmap::BreakPeriod;
 use records::beatmap::Settings;
 ghost use mathlib.Core.Path.{_≡_};
-ghost use Prim.Native.Nat.{_+_, _≤_, _<_, _^_};
+ghost use Prim.Native.Nat.{_+_, _≤_, _<_, _^_, _*_};
 ghost use lib.IntN.{_+ℤ_};
 ghost use lib.ListN.{length};
 ghost use lib.Signed.{mag};
+ghost use Rattle.records.specs.Limits.{maxBreaks};
 ghost use Rattle.ruleset.specs.Drain.{lengthOf, breaksLength, breaksOf, breaksIn, drainOf};
 ghost use Rattle.ruleset.specs.Stars.{SettingsIn, multiplierOf};
-
-// The bytes of a map file's header and of each break record behind it.
-const HEADER_BYTES: usize = 14;
-
-const BREAK_BYTES: usize = 18;
 
 // The milliseconds from one time to another, each rounded to a whole number.
 pub fn length_between(start: f64, end: f64) -> i64
@@ -34,7 +31,7 @@ fn add_break(total: i64, start: f64, end: f64) -> i64
 
 // The length of breaks that are given as start, end, start, end; an odd number at the end is left out.
 pub fn break_len(breaks: &[f64], last_start: f64) -> i64
-    requires { ⌜ length (now breaks) ≤ 256 ⌝ }
+    requires { ⌜ length (now breaks) ≤ 2 * maxBreaks ⌝ }
     ensures { λ r. ⌜ (r ≡ breaksLength «last_start» (breaksOf (now (breaks .entry)))) × (mag r ≤ 2 ^ 41) ⌝ }
 {
     let mut total: i64 = 0;
@@ -54,11 +51,11 @@ pub fn break_len(breaks: &[f64], last_start: f64) -> i64
 
 // The length of the first `count` breaks of a map file, whose records follow the header.
 pub fn break_len_in(s: &[u8], count: u64, last_start: f64) -> i64
-    requires { ⌜ count ≤ 128 ⌝ }
+    requires { ⌜ count ≤ maxBreaks ⌝ }
     ensures { λ r. ⌜ (r ≡ breaksLength «last_start» (breaksIn (now (s .entry)) count)) × (mag r ≤ 2 ^ 41) ⌝ }
 {
     let mut total: i64 = 0;
-    let mut at = HEADER_BYTES;
+    let mut at = Settings::SIZE;
     let mut i: u64 = 0;
     while i < count {
         let start = f64_from_bits(word_at(s, at + 2, 8));
@@ -68,7 +65,7 @@ pub fn break_len_in(s: &[u8], count: u64, last_start: f64) -> i64
         } else {
             return total;
         }
-        at += BREAK_BYTES;
+        at += BreakPeriod::SIZE;
         i += 1;
     }
     total

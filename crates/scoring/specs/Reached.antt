@@ -2,6 +2,7 @@
 use Prim.Native.Nat.{ℕ, _<_}
 use mathlib.Core.Path.{_≡_}
 use mathlib.Core.List.{List}
+use Rattle.map_file.specs.Order.{objectRank, noRank}
 use Rattle.map_file.specs.File.{File}
 use Rattle.map_file.specs.declared.file.Reader.{Reader}
 use Rattle.records.specs.declared.record.Record.{Record}
@@ -21,7 +22,7 @@ pub record Reached (s : List ℕ) (p : ℕ) (w : Walk) : Type 0 where
   pub map-chain : Chain s map-file
   pub map-end : map-file .at ≡ w .end
   pub map-same : map-file .map ≡ file .map
-  pub map-begun : 0 < file .last → 0 < map-file .last
+  pub map-begun : noRank < file .last → noRank < map-file .last
 
 -- a play is scored where the reader and the sums are within the limits of a map
 abbrev pub Scorable : Reader → Sums → Record → Type 0
@@ -33,5 +34,5 @@ Scorable reader sums (record·case.Play p) = Complete reader sums
 -- objects were read on behind an object, or nothing was
 pub data RunOn (s : List ℕ) (p : ℕ) (w : Walk) : Walk → Type 0 where
   still : RunOn s p w w
-  ran : {r : Walk} → w .reader .counts .last ≡ 3 → Steps s p (w .reader) (w .sums) (r .reader) (r .sums) → r .end ≡ r .reader .at → r .wanted ≡ w .wanted
+  ran : {r : Walk} → w .reader .counts .last ≡ objectRank → Steps s p (w .reader) (w .sums) (r .reader) (r .sums) → r .end ≡ r .reader .at → r .wanted ≡ w .wanted
       → RunOn s p w r

@@ -5,15 +5,18 @@ use file_sums::simulate::attributes_of;
 use file_sums::simulate::simulate;
 use file_sums::tally::pass_objects;
 use file_sums::tally::skip_objects;
+use map_file::file::NO_RANK;
+use map_file::file::OBJECT_RANK;
 use map_file::file::Reader;
 use map_file::file::Step;
 use map_file::file::read_record;
-use miss_calc::counts::least;
+use numbers::naturals::least;
 use play_score::PlayScore;
 use play_score::Scored;
 use play_score::score_on;
 use records::play::Play;
 use records::record::Record;
+use records::refusal;
 use simulator::attributes::ScoreAttributes;
 ghost use mathlib.Core.Path.{_≡_};
 ghost use Prim.Native.Nat.{_≤_, _<_};
@@ -177,7 +180,7 @@ pub fn run_on(s: &[u8], walk: Walk, passed: u64) -> Walk
     let reader = walk.reader;
     let sums = walk.sums;
     let wanted = walk.wanted;
-    if reader.counts.last != 3 {
+    if reader.counts.last != OBJECT_RANK {
         return walk;
     }
     let run = skip_objects(s, pass_objects(s, reader, sums, passed), passed);
@@ -210,9 +213,9 @@ pub fn check_plays(s: &[u8], passed: u64, index: u64) -> Plays
     let reader = walk.reader;
     let sums = walk.sums;
     let wanted = walk.wanted;
-    if reader.counts.last == 0 {
+    if reader.counts.last == NO_RANK {
         return Plays::Refused {
-            number: 3,
+            number: refusal::MARK,
             offset: 0,
         };
     }

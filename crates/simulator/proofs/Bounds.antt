@@ -4,6 +4,7 @@ use Prim.Native.Nat.{ℕ, _+_, _-_, _*_, _^_, _≤_, _<_}
 use native.Mathlib.Nat.{lt-of-le-of-lt, mul-le-mul}
 use lib.Dec.{lit<}
 use native.Mathlib.Omega.{arith}
+use Rattle.records.specs.Limits.{maxObjects, maxNested, maxCombosBefore}
 use Rattle.records.specs.Objects.{Kind, circle, slider, spinner, repeats, ticks, kindView}
 use Rattle.simulator.specs.Hits.{hitsOf}
 use Rattle.simulator.specs.Walk.{State, fresh, walk}
@@ -25,7 +26,7 @@ within-more n k st h w = record {
   standardised = let e = w .standardised in omega arith;
 }
 
-pub step-within : (n : ℕ) (st : State) (k : Kind) → n ≤ 8191 → nestedCount (kindView k) ≤ 1000 → Within n st → Within (n + 1) (walk 1 st (hitsOf k))
+pub step-within : (n : ℕ) (st : State) (k : Kind) → n ≤ (maxObjects - 1) → nestedCount (kindView k) ≤ maxNested → Within n st → Within (n + 1) (walk 1 st (hitsOf k))
 step-within n st circle h g w = subst (λ (x : State). Within (n + 1) x) (sym (walk-circle 1 st)) record {
   combo = let e = w .combo in omega arith;
   accuracy = let e = w .accuracy in omega arith;
@@ -70,7 +71,7 @@ counted-more n k c h w = record {
   spun = let e = w .spun in omega arith;
 }
 
-pub step-counted : (n : ℕ) (c : NestedScorePerObject) (k : Kind) → nestedCount (kindView k) ≤ 1000 → Counted n c → Counted (n + 1) (counted c k)
+pub step-counted : (n : ℕ) (c : NestedScorePerObject) (k : Kind) → nestedCount (kindView k) ≤ maxNested → Counted n c → Counted (n + 1) (counted c k)
 unfolding counted
 step-counted n c circle g w = record {
   objects = let e = w .objects in omega arith;
@@ -101,5 +102,5 @@ step-counted n c (spinner d) g w = record {
 }
 
 -- the combo points at a multiplier up to 7 fit a word
-pub product-fits : (p m : ℕ) → p ≤ 12 * 137438953473 → m ≤ 7 → p * m < 2 ^ 64
+pub product-fits : (p m : ℕ) → p ≤ 12 * (maxCombosBefore + 1) → m ≤ 7 → p * m < 2 ^ 64
 product-fits p m h k = lt-of-le-of-lt (mul-le-mul h k) (lit< tt)

@@ -6,6 +6,7 @@ use native.Mathlib.Omega.{arith}
 use mathlib.Core.List.{List, [], _∷_}
 use lib.Dec.{lit≤, lit<}
 use lib.Ieee.{Float, toUnsigned}
+use Rattle.records.specs.Limits.{maxCombo}
 use Rattle.numbers.specs.Floats.{whole, _⊕_, _⊗_}
 use Rattle.numbers.proofs.Wholes.{whole-add, whole-mul, whole-cut}
 use Rattle.records.specs.Objects.{Object, Kind, circle, slider, spinner}
@@ -13,14 +14,14 @@ use Rattle.simulator.specs.Walk.{comboPoints}
 use Rattle.simulator.specs.Nested.{spinnerScoreOf, counted, countedAll}
 use Rattle.simulator.specs.declared.legacy_score.NestedScorePerObject.{NestedScorePerObject}
 
-factor-most : (c : ℕ) → c ≤ 8200192 → (c - 1) * 12 ≤ 98402304
+factor-most : (c : ℕ) → c ≤ maxCombo → (c - 1) * 12 ≤ 98402304
 factor-most c h = omega arith
 
 product-most : (q m : ℕ) → q ≤ 98402304 → m ≤ 7 → q * m ≤ 688816128
 product-most q m h k = le-trans (mul-le-mul h k) (lit≤ tt)
 
 -- `factor = combo.saturating_sub(1) as f64 * (300 / 25) as f64`, then `(factor * multiplier) as i32`
-pub combo-exact : (m c : ℕ) → c ≤ 8200192 → m ≤ 7 → toUnsigned 31 (whole (c - 1) ⊗ whole (300 / 25) ⊗ whole m) ≡ comboPoints m c 300
+pub combo-exact : (m c : ℕ) → c ≤ maxCombo → m ≤ 7 → toUnsigned 31 (whole (c - 1) ⊗ whole (300 / 25) ⊗ whole m) ≡ comboPoints m c 300
 combo-exact m c h k =
     let q = (c - 1) * 12 in
     let q-most = factor-most c h in

@@ -4,6 +4,7 @@ use mathlib.Core.List.{List, [], _∷_, _++_}
 use Prim.Native.Nat.{ℕ, zero, suc, _+_, _≤_}
 use native.Mathlib.Omega.{arith}
 use lib.ListN.{length, take, length-take}
+use Rattle.records.specs.Limits.{maxNested, maxObjects}
 use Rattle.records.specs.Objects.{Object, Kind, circle, slider, spinner, kindView}
 use Rattle.records.specs.Records.{Content, header, break, object, play, objectOf}
 use Rattle.records.proofs.All.{All, all-map}
@@ -19,7 +20,7 @@ use Rattle.simulator.proofs.Sums.{items-count}
 
 -- ---- the objects of a file have at most 1,000 nested items
 abbrev pub Few : Object → Type 0
-Few o = nestedCount (kindView (o .kind)) ≤ 1000
+Few o = nestedCount (kindView (o .kind)) ≤ maxNested
 
 abbrev pub FewIn : Content → Type 0
 FewIn (header s) = Unit
@@ -34,7 +35,7 @@ ContentWithin (break b) = BreakWithin b
 ContentWithin (object o) = ObjectWithin o
 ContentWithin (play p) = Unit
 
-pub kind-few : (k : Kind) → KindWithin k → nestedCount (kindView k) ≤ 1000
+pub kind-few : (k : Kind) → KindWithin k → nestedCount (kindView k) ≤ maxNested
 kind-few circle h = omega arith
 kind-few (slider is) h = let e = items-count is in omega (arith, e, h)
 kind-few (spinner d) h = omega arith
@@ -58,7 +59,7 @@ pub each-more : (os : List Object) (o : Object) → Each Few os → Few o → Ea
 each-more [] o none h = one h none
 each-more (x ∷ os) o (one k w) h = one k (each-more os o w h)
 
-all-within : (n : ℕ) (st : State) (os : List Object) → n + length os ≤ 8192 → Each Few os → Within n st → Within (n + length os) (after 1 st os)
+all-within : (n : ℕ) (st : State) (os : List Object) → n + length os ≤ maxObjects → Each Few os → Within n st → Within (n + length os) (after 1 st os)
 unfolding after
 all-within n st [] h none w = within-more n (n + 0) st (omega arith) w
 all-within n st (o ∷ os) h (one k e) w =
@@ -73,7 +74,7 @@ all-counted n c (o ∷ os) (one k e) w =
     let rest = all-counted (n + 1) (counted c (o .kind)) os e (step-counted n c (o .kind) k w) in
     counted-more (n + 1 + length os) (n + suc (length os)) (countedAll (counted c (o .kind)) os) (omega arith) rest
 
-module _ (p n : ℕ) (os : List Object) (few : length os ≤ n) (most : n ≤ 8192) (w : Each Few os) where
+module _ (p n : ℕ) (os : List Object) (few : length os ≤ n) (most : n ≤ maxObjects) (w : Each Few os) where
   taken : length (take p os) ≤ n
   taken = let e = length-take p os in omega (arith, e, few)
 

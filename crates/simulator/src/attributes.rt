@@ -6,6 +6,7 @@ use numbers::rounding::float;
 use spinner::StandardisedBonusScore;
 ghost use mathlib.Core.Path.{_≡_};
 ghost use Prim.Native.Nat.{_≤_};
+ghost use Rattle.records.specs.Limits.{maxObjects};
 ghost use Rattle.simulator.specs.Attributes.{difficultyAttributesOf, scoreAttributesOf};
 ghost use Rattle.simulator.specs.Limits.{Bounded, Counted};
 ghost use Rattle.simulator.specs.View.{times};
@@ -37,7 +38,7 @@ fn difficulty_attributes(
     nested: NestedScorePerObject,
     multiplier: u64,
 ) -> OsuDifficultyAttributes
-    requires { ⌜ Bounded score × Counted 8192 nested × (multiplier ≤ 7) ⌝ }
+    requires { ⌜ Bounded score × Counted maxObjects nested × (multiplier ≤ 7) ⌝ }
     ensures { λ r. ⌜ r ≡ difficultyAttributesOf (times multiplier score) nested multiplier ⌝ }
 {
     OsuDifficultyAttributes {
@@ -58,7 +59,7 @@ pub fn score_attributes(
     nested: NestedScorePerObject,
     multiplier: u64,
 ) -> ScoreAttributes
-    requires { ⌜ Bounded score × Counted 8192 nested × (multiplier ≤ 7) ⌝ }
+    requires { ⌜ Bounded score × Counted maxObjects nested × (multiplier ≤ 7) ⌝ }
     ensures { λ r. ⌜ r ≡ scoreAttributesOf (times multiplier score) nested multiplier ⌝ }
 {
     let standardised_bonus_score = score.standardised_bonus_score;

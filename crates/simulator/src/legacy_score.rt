@@ -1,4 +1,5 @@
 // The nested score: what ScoreV1 gives for the parts of sliders and the turns of spinners, for each object.
+use numbers::naturals::monus;
 use numbers::rounding::float;
 use records::hit_object::HitObject;
 use records::hit_object::HitObjectKind;
@@ -7,7 +8,8 @@ use records::hit_object::Spinner;
 use spinner::HalfSpins;
 use spinner::half_spins;
 ghost use mathlib.Core.Path.{_≡_};
-ghost use Prim.Native.Nat.{_-_, _≤_, _<_, _^_};
+ghost use Prim.Native.Nat.{_≤_, _<_, _^_, _-_};
+ghost use Rattle.records.specs.Limits.{maxObjects, maxNested};
 ghost use Rattle.simulator.specs.Nested.{spinsScore, spinnerScoreOf, nestedScoreOf, counted, noObject};
 ghost use Rattle.simulator.specs.Limits.{Counted, nestedCount};
 ghost use Rattle.simulator.specs.View.{kindOf};
@@ -15,12 +17,6 @@ ghost use Rattle.simulator.specs.View.{kindOf};
 const SPIN_SCORE: u64 = 100;
 
 const BONUS_SPIN_SCORE: u64 = 1000;
-
-fn monus(a: u64, b: u64) -> u64
-    ensures { λ r. ⌜ r ≡ a - b ⌝ }
-{
-    if b < a { a - b } else { 0 }
-}
 
 // A spinner's full turns, and its bonus turns less half of the full ones.
 pub fn score_of_spins(h: HalfSpins) -> u64
@@ -65,7 +61,7 @@ impl NestedScorePerObject {
     }
 
     pub fn process_next(self, object: HitObject) -> Self
-        requires { ⌜ Counted 8191 self × (nestedCount (object .kind) ≤ 1000) ⌝ }
+        requires { ⌜ Counted (maxObjects - 1) self × (nestedCount (object .kind) ≤ maxNested) ⌝ }
         ensures { λ r. ⌜ r ≡ counted self (kindOf (object .kind)) ⌝ }
     {
         let object_count = self.object_count + 1;
@@ -94,7 +90,7 @@ impl NestedScorePerObject {
 
     // With no object a quotient of zeros, which is not a number.
     pub fn calculate(self) -> f64
-        requires { ⌜ Counted 8192 self ⌝ }
+        requires { ⌜ Counted maxObjects self ⌝ }
         ensures { λ r. ⌜ r ≡ nestedScoreOf self ⌝ }
     {
         // A head and a tail for each slider, and the repeats.

@@ -8,6 +8,7 @@ use spinner::LegacyBonusScore;
 use spinner::StandardisedBonusScore;
 ghost use mathlib.Core.Path.{_≡_};
 ghost use Prim.Native.Nat.{_+_, _-_, _*_, _≤_};
+ghost use Rattle.records.specs.Limits.{maxCombo, maxObjects, maxNested};
 ghost use Rattle.simulator.specs.Hits.{hitsOf};
 ghost use Rattle.simulator.specs.Walk.{walk, fresh};
 ghost use Rattle.simulator.specs.Attributes.{bonusRatioOf, legacyAttributesOf};
@@ -32,7 +33,7 @@ pub struct LegacyScoreAttributes {
 
 // The combo points of a 300 at multiplier 1: 300 / 25 for each combo before it but the first, and none at combo 0.
 pub fn combo_points(combo: u64) -> u64
-    requires { ⌜ combo ≤ 8200192 ⌝ }
+    requires { ⌜ combo ≤ maxCombo ⌝ }
     ensures { λ r. ⌜ r ≡ 12 * (combo - 1) ⌝ }
 {
     if combo == 0 { 0 } else { 12 * (combo - 1) }
@@ -52,7 +53,7 @@ impl OsuLegacyScoreSimulator {
     }
 
     pub fn circle(self) -> Self
-        requires { ⌜ Within 8191 self ⌝ }
+        requires { ⌜ Within (maxObjects - 1) self ⌝ }
         ensures { λ r. ⌜ r ≡ walk 1 self (hitsOf (kindOf HitObjectKind.Circle)) ⌝ }
     {
         let legacy_bonus_score = self.legacy_bonus_score;
@@ -68,7 +69,7 @@ impl OsuLegacyScoreSimulator {
 
     // The head, the repeats and the tail give 30 each and the ticks 10, all before the 300 at the end.
     pub fn slider(self, slider: Slider) -> Self
-        requires { ⌜ Within 8191 self × (slider .repeats + slider .ticks + 1 ≤ 1000) ⌝ }
+        requires { ⌜ Within (maxObjects - 1) self × (slider .repeats + slider .ticks + 1 ≤ maxNested) ⌝ }
         ensures { λ r. ⌜ r ≡ walk 1 self (hitsOf (kindOf (HitObjectKind.Slider slider))) ⌝ }
     {
         let big_ticks = slider.repeats + 2;
@@ -86,7 +87,7 @@ impl OsuLegacyScoreSimulator {
 
     // The bonus of the half spins, then the 300 at the end.
     pub fn spinner(self, spinner: Spinner) -> Self
-        requires { ⌜ Within 8191 self ⌝ }
+        requires { ⌜ Within (maxObjects - 1) self ⌝ }
         ensures { λ r. ⌜ r ≡ walk 1 self (hitsOf (kindOf (HitObjectKind.Spinner spinner))) ⌝ }
     {
         let bonus = spinner::bonus(spinner.duration);
@@ -104,7 +105,7 @@ impl OsuLegacyScoreSimulator {
     }
 
     pub fn step(self, object: HitObject) -> Self
-        requires { ⌜ Within 8191 self × (nestedCount (object .kind) ≤ 1000) ⌝ }
+        requires { ⌜ Within (maxObjects - 1) self × (nestedCount (object .kind) ≤ maxNested) ⌝ }
         ensures { λ r. ⌜ r ≡ walk 1 self (hitsOf (kindOf (object .kind))) ⌝ }
     {
         let kind = object.kind;

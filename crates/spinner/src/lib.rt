@@ -1,4 +1,5 @@
 // The bonus points of a spinner, by two counts over its half spins.
+use numbers::naturals::monus;
 ghost use mathlib.Core.Path.{_≡_};
 ghost use Prim.Native.Nat.{_+_, _-_, _<_, _≤_, _^_};
 ghost use Rattle.spinner.specs.HalfSpins.{totalHalfSpins, requiredHalfSpins};
@@ -27,12 +28,6 @@ pub struct SpinCounts {
 }
 
 // a - b, and 0 where b is above a.
-fn monus(a: u64, b: u64) -> u64
-    ensures { λ r. ⌜ r ≡ a - b ⌝ }
-{
-    if b < a { a - b } else { 0 }
-}
-
 // How many half spins up to `total` give the large and the small bonus, with `before` half spins before the bonus.
 fn count_spins(total: u64, before: u64) -> SpinCounts
     ensures { λ c. ⌜ (c .large ≡ largeCount before total) × (c .small ≡ smallCount before total) × (c .large ≤ total) × (c .small ≤ total) ⌝ }

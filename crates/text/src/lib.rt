@@ -5,5 +5,4 @@ mod pieces;
 
 pub use digits::put_decimal;
 pub use digits::put_float;
-pub use digits::put_hex;
 pub use pieces::put_text;

@@ -9,8 +9,9 @@ use native.Mathlib.Nat.{add-zero, zero-add, add-sub-cancel-left, not-suc-le-zero
 use native.Mathlib.Decide.{ℕ-discrete, decLt}
 use lib.Pow.{pow-pos}
 use lib.ListN.{length, take, drop, drop-of-length-le}
+use Rattle.records.specs.Limits.{maxObjects}
 use Rattle.records.specs.Objects.{Object}
-use Rattle.entries.specs.Entry.{none, joined, entryOf, inLimits}
+use Rattle.entries.specs.Entry.{none, joined, entryOf, inLimits, entryWords, placeWords}
 use Rattle.entries.specs.Words.{entryAt, putEntry, wordsFrom}
 use Rattle.entries.specs.declared.entry.Entry.{Entry}
 use Rattle.entries.proofs.Runs.{entry-none}
@@ -26,7 +27,7 @@ use Rattle.tree.proofs.Within.{all-in}
 -- b′ is b but for the entries from lo to below hi
 pub record Kept (lo hi : ℕ) (b b′ : List ℕ) : Type 0 where
   pub size : length b′ ≡ length b
-  pub rest : (n : ℕ) → hi * 13 ≤ n → drop n b′ ≡ drop n b
+  pub rest : (n : ℕ) → hi * entryWords ≤ n → drop n b′ ≡ drop n b
   pub before : (x : ℕ) → x < lo → entryAt b′ x ≡ entryAt b x
   pub behind : (x : ℕ) → hi ≤ x → entryAt b′ x ≡ entryAt b x
 
@@ -59,7 +60,7 @@ laid-kept e (o ∷ os) b = kept-both (kept-put b e (entryOf (o ∷ []))) (laid-k
 pub laid-length : (e : ℕ) (os : List Object) (b : List ℕ) → length (laid e os b) ≡ length b
 laid-length e os b = laid-kept e os b .size
 
-pub laid-drop : (e : ℕ) (os : List Object) (b : List ℕ) (n : ℕ) → (e + length os) * 13 ≤ n → drop n (laid e os b) ≡ drop n b
+pub laid-drop : (e : ℕ) (os : List Object) (b : List ℕ) (n : ℕ) → (e + length os) * entryWords ≤ n → drop n (laid e os b) ≡ drop n b
 laid-drop e os b = laid-kept e os b .rest
 
 pub laid-none : (e : ℕ) (b : List ℕ) → laid e [] b ≡ b
@@ -76,7 +77,7 @@ laid-snoc e (x ∷ os) o b =
     let b′ = putEntry b e (entryOf (x ∷ [])) in
     laid-snoc (suc e) os o b′ ∙ ap (λ (n : ℕ). putEntry (laid (suc e) os b′) n (entryOf (o ∷ []))) next
 
-laid-at : (e : ℕ) (os : List Object) (b : List ℕ) (i : ℕ) → i < length os → (e + length os) * 13 ≤ length b
+laid-at : (e : ℕ) (os : List Object) (b : List ℕ) (i : ℕ) → i < length os → (e + length os) * entryWords ≤ length b
     → entryAt (laid e os b) (e + i) ≡ entryOf (take 1 (drop i os))
 unfolding laid
 laid-at e [] b i h room = absurd (not-suc-le-zero h)
@@ -96,12 +97,12 @@ unfolding cleared
 cleared-kept e zero b = kept-same e b
 cleared-kept e (suc n) b = kept-both (cleared-kept e n b) (kept-put (cleared e n b) (e + n) none) (omega arith)
 
-cleared-at : (e n : ℕ) (b : List ℕ) (i : ℕ) → i < n → (e + n) * 13 ≤ length b → entryAt (cleared e n b) (e + i) ≡ none
+cleared-at : (e n : ℕ) (b : List ℕ) (i : ℕ) → i < n → (e + n) * entryWords ≤ length b → entryAt (cleared e n b) (e + i) ≡ none
 unfolding cleared
 cleared-at e zero b i h room = absurd (not-suc-le-zero h)
 cleared-at e (suc n) b i h room = go (cleared-at e n b i) (ℕ-discrete i n)
   where
-    go : (i < n → (e + n) * 13 ≤ length b → entryAt (cleared e n b) (e + i) ≡ none) → Dec (i ≡ n)
+    go : (i < n → (e + n) * entryWords ≤ length b → entryAt (cleared e n b) (e + i) ≡ none) → Dec (i ≡ n)
         → entryAt (putEntry (cleared e n b) (e + n) none) (e + i) ≡ none
     go ih (yes same) =
         ap (λ (j : ℕ). entryAt (putEntry (cleared e n b) (e + n) none) (e + j)) same
@@ -112,7 +113,7 @@ cleared-at e (suc n) b i h room = go (cleared-at e n b i) (ℕ-discrete i n)
 beyond : (os : List Object) (i : ℕ) → length os ≤ i → entryOf (take 1 (drop i os)) ≡ none
 beyond os i h = ap (λ (w : List Object). entryOf (take 1 w)) (drop-of-length-le os h) ∙ entry-none
 
-module _ (c : ℕ) (os : List Object) (b : List ℕ) (some : 1 ≤ c) (few : length os ≤ c) (room : c * 26 ≤ length b) where
+module _ (c : ℕ) (os : List Object) (b : List ℕ) (some : 1 ≤ c) (few : length os ≤ c) (room : c * placeWords ≤ length b) where
   abbrev own : List ℕ
   own = putEntry (laid c os b) 0 none
 
@@ -155,7 +156,7 @@ module _ (l : ℕ) (os : List Object) (top : inLimits (entryIn l os 1) ≡ true)
   abbrev Behind : ℕ → List ℕ → Type 0
   Behind n b = (x : ℕ) → n < x → x < 2 * 2 ^ l → entryAt b x ≡ entryIn l os x
 
-  put-behind : (n : ℕ) (b : List ℕ) (v : Entry) → suc n < 2 ^ l → 2 ^ l * 26 ≤ length b → v ≡ entryIn l os (suc n) → Behind (suc n) b
+  put-behind : (n : ℕ) (b : List ℕ) (v : Entry) → suc n < 2 ^ l → 2 ^ l * placeWords ≤ length b → v ≡ entryIn l os (suc n) → Behind (suc n) b
       → Behind n (putEntry b (suc n) v)
   put-behind n b v h room is stands x k g = go (ℕ-discrete x (suc n))
     where
@@ -163,7 +164,7 @@ module _ (l : ℕ) (os : List Object) (top : inLimits (entryIn l os 1) ≡ true)
       go (yes e) = ap (entryAt (putEntry b (suc n) v)) e ∙ put-same b (suc n) v (omega arith) ∙ is ∙ sym (ap (entryIn l os) e)
       go (no e) = put-other b (suc n) x v e ∙ stands x (omega arith) g
 
-  raise-right : (n : ℕ) (b : List ℕ) → n < 2 ^ l → 2 ^ l * 26 ≤ length b → Behind n b → Raises n b × Behind 0 (raised n b)
+  raise-right : (n : ℕ) (b : List ℕ) → n < 2 ^ l → 2 ^ l * placeWords ≤ length b → Behind n b → Raises n b × Behind 0 (raised n b)
   unfolding raised Raises
   raise-right zero b h room stands = (tt, stands)
   raise-right (suc n) b h room stands =
@@ -176,7 +177,7 @@ module _ (l : ℕ) (os : List Object) (top : inLimits (entryIn l os 1) ≡ true)
       ap₂ joined left right
       ∙ ap (λ (y : ℕ). joined (entryIn l os y) (entryIn l os (y + 1))) twice
       ∙ sym (entry-node l os (suc n) (omega arith) h) in
-      let room′ : 2 ^ l * 26 ≤ length (putEntry b (suc n) v) = omega (arith, put-length b (suc n) v) in
+      let room′ : 2 ^ l * placeWords ≤ length (putEntry b (suc n) v) = omega (arith, put-length b (suc n) v) in
       let up = raise-right n (putEntry b (suc n) v) (omega arith) room′ (put-behind n b v h room is stands) in
       let left-in = ap inLimits left ∙ all-in l os top x (omega arith) (omega arith) in
       let right-in = ap inLimits right ∙ all-in l os top (x + 1) (omega arith) (omega arith) in
@@ -189,8 +190,8 @@ entry-place l os i =
     ap entryOf (covered-leaf (2 ^ l) os l (2 ^ l + i) (omega arith) ∙ ap (λ (m : ℕ). take 1 (drop m os)) (add-sub-cancel-left (2 ^ l) i))
 
 -- ---- the whole build
-module _ (os : List Object) (b : List ℕ) (fits : inLimits (entryOf os) ≡ true) (few : length os ≤ 8192)
-    (room : 26 * capOf (length os) ≤ length b) where
+module _ (os : List Object) (b : List ℕ) (fits : inLimits (entryOf os) ≡ true) (few : length os ≤ maxObjects)
+    (room : placeWords * capOf (length os) ≤ length b) where
   abbrev l : ℕ
   l = levelsOf (length os)
 
@@ -231,10 +232,10 @@ module _ (os : List Object) (b : List ℕ) (fits : inLimits (entryOf os) ≡ tru
   entries-right zero h = raised-kept (c - 1) start .before 0 (omega arith) ∙ zeroth c os b some hold (omega arith)
   entries-right (suc x) h = ends .1 (suc x) (omega arith) h
 
-  pub build-right : filled (capOf (length os)) (length os) (laid (capOf (length os)) os b) ≡ boardOf os ++ drop (26 * capOf (length os)) b
+  pub build-right : filled (capOf (length os)) (length os) (laid (capOf (length os)) os b) ≡ boardOf os ++ drop (placeWords * capOf (length os)) b
   unfolding filled boardOf
   build-right =
       let r = raised (c - 1) start in
-      let words : 2 * c * 13 ≡ 26 * c = omega arith in
+      let words : 2 * c * entryWords ≡ placeWords * c = omega arith in
       is-words (boardEntry os) (2 * c) r 0 (omega (arith, end-kept .size)) (λ x h. entries-right x h ∙ ap (boardEntry os) (sym (zero-add x)))
-      ∙ ap (λ (w : List ℕ). wordsFrom (boardEntry os) 0 (2 * c) ++ w) (ap (λ (k : ℕ). drop k r) words ∙ end-kept .rest (26 * c) (omega arith))
+      ∙ ap (λ (w : List ℕ). wordsFrom (boardEntry os) 0 (2 * c) ++ w) (ap (λ (k : ℕ). drop k r) words ∙ end-kept .rest (placeWords * c) (omega arith))

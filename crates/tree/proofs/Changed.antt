@@ -12,10 +12,11 @@ use lib.ListN.{length, take, set, length-set, length-append}
 use lib.Pow.{pow-pos}
 use lib.Seq.{drop-at}
 use borrow.Author.Tests.{lt-ltb, le-ltb}
+use Rattle.records.specs.Limits.{maxObjects, maxBonus}
 use Rattle.records.specs.Refusals.{good, refused}
 use Rattle.records.specs.Objects.{Object, kindBonus, bonus}
 use Rattle.encoding.specs.Limits.{Each, none, one, ObjectWithin}
-use Rattle.entries.specs.Entry.{none as noEntry, entryOf, inLimits}
+use Rattle.entries.specs.Entry.{none as noEntry, entryOf, inLimits, placeWords, entryWords}
 use Rattle.entries.specs.Words.{entryAt, wordsFrom}
 use Rattle.entries.specs.declared.entry.Entry.{Entry}
 use Rattle.entries.proofs.Accepted.{bonus-total, object-bonus, entry-within}
@@ -38,7 +39,7 @@ unfolding boardEntry
 board-entry os n zero e h = absurd (not-suc-le-zero h)
 board-entry os n (suc x) e h = rw e
 
-pub board-length : (os : List Object) (r : List ℕ) → length (boardOf os ++ r) ≡ 26 * capOf (length os) + length r
+pub board-length : (os : List Object) (r : List ℕ) → length (boardOf os ++ r) ≡ placeWords * capOf (length os) + length r
 unfolding boardOf
 board-length os r =
     let w = words-length (boardEntry os) (2 * capOf (length os)) 0 in
@@ -65,7 +66,7 @@ legacy-is : (os : List Object) → entryOf os .«legacy_bonus_score» ≡ bonus 
 unfolding entryOf
 legacy-is os = bonus-total os
 
-module _ (os : List Object) (r : List ℕ) (w : Each ObjectWithin os) (few : length os ≤ 8192) (low : bonus os ≤ 2147483647) where
+module _ (os : List Object) (r : List ℕ) (w : Each ObjectWithin os) (few : length os ≤ maxObjects) (low : bonus os ≤ maxBonus) where
   abbrev l : ℕ
   l = levelsOf (length os)
 
@@ -88,7 +89,7 @@ module _ (os : List Object) (r : List ℕ) (w : Each ObjectWithin os) (few : len
     in-places : p < 2 ^ l
     in-places = le-trans in-p held
 
-    room : 2 * 2 ^ l * 13 ≤ length b
+    room : 2 * 2 ^ l * entryWords ≤ length b
     room = let e = board-length os r in omega (arith, e)
 
     same-length : length (set os p o) ≡ length os
@@ -102,7 +103,7 @@ module _ (os : List Object) (r : List ℕ) (w : Each ObjectWithin os) (few : len
         let more = bonus-set os p o in
         let most = object-bonus (o .kind) (within .kind) in
         ap (λ (e : Entry). inLimits (withoutLegacy e)) top-is
-        ∙ entry-light (set os p o) (each-set p o w within) (subst (λ (n : ℕ). n ≤ 8192) (sym same-length) few) (omega (arith, more, most, low))
+        ∙ entry-light (set os p o) (each-set p o w within) (subst (λ (n : ℕ). n ≤ maxObjects) (sym same-length) few) (omega (arith, more, most, low))
 
     -- the words that a climb leaves are the board of the map with o at p
     left-is : (b′ : List ℕ) → After l os p o in-places b l (2 ^ l + p) b′ → b′ ≡ boardOf (set os p o) ++ r
@@ -111,7 +112,7 @@ module _ (os : List Object) (r : List ℕ) (w : Each ObjectWithin os) (few : len
         is-words (boardEntry (set os p o)) (2 * 2 ^ l) b′ 0 (omega (arith, room, a .kept .size))
         (λ x h. ap (λ (y : ℕ). entryAt b′ y) (sym (zero-add x)) ∙ go (0 + x) (rw zero-add h))
         ∙ ap₂ (λ (m : ℕ) (v : List ℕ). wordsFrom (boardEntry (set os p o)) 0 (2 * capOf m) ++ v) (sym same-length)
-        (a .kept .behind (2 * 2 ^ l * 13) (omega (arith, in-places)) ∙ drop-at (boardOf os) r (2 * 2 ^ l * 13) (words-length (boardEntry os) (2 * 2 ^ l) 0))
+        (a .kept .behind (2 * 2 ^ l * entryWords) (omega (arith, in-places)) ∙ drop-at (boardOf os) r (2 * 2 ^ l * entryWords) (words-length (boardEntry os) (2 * 2 ^ l) 0))
       where
         go : (x : ℕ) → x < 2 * 2 ^ l → entryAt b′ x ≡ boardEntry (set os p o) x
         go zero h = a .kept .others 0 (off-zero l (2 ^ l + p) (top-of l p in-places)) ∙ board-at os r 0 h
@@ -122,7 +123,7 @@ module _ (os : List Object) (r : List ℕ) (w : Each ObjectWithin os) (few : len
             pick (inr off) =
                 a .kept .others (suc x) off ∙ honest (suc x) (omega arith, h) ∙ sym (entry-off l os p o (suc x) in-places (omega arith) off)
 
-    leaf-low : entryIn l (set os p o) (2 ^ l + p) .«legacy_bonus_score» ≤ 2147483647
+    leaf-low : entryIn l (set os p o) (2 ^ l + p) .«legacy_bonus_score» ≤ maxBonus
     unfolding bonus
     leaf-low =
         let most = object-bonus (o .kind) (within .kind) in
@@ -133,23 +134,23 @@ module _ (os : List Object) (r : List ℕ) (w : Each ObjectWithin os) (few : len
     top-legacy = ap (λ (e : Entry). e .«legacy_bonus_score») top-is ∙ legacy-is (set os p o)
 
     finished : Climbs l os p o in-places b l (2 ^ l + p) (entryOf (o ∷ []))
-        → climbed l b (2 ^ l + p) (entryOf (o ∷ [])) ≡ cond (ltb 2147483647 (bonus (set os p o))) (refused 7) (good (boardOf (set os p o) ++ r))
-    finished (high q up) = simp (lt-ltb 2147483647 (bonus (set os p o)) (omega (arith, up, top-legacy))) q
-    finished (done b′ q ends a) = simp (le-ltb 2147483647 (bonus (set os p o)) (omega (arith, ends, top-legacy))) (q ∙ ap good (left-is b′ a))
+        → climbed l b (2 ^ l + p) (entryOf (o ∷ [])) ≡ cond (ltb maxBonus (bonus (set os p o))) (refused 7) (good (boardOf (set os p o) ++ r))
+    finished (high q up) = simp (lt-ltb maxBonus (bonus (set os p o)) (omega (arith, up, top-legacy))) q
+    finished (done b′ q ends a) = simp (le-ltb maxBonus (bonus (set os p o)) (omega (arith, ends, top-legacy))) (q ∙ ap good (left-is b′ a))
 
-    climb-right : climbed l b (2 ^ l + p) (entryOf (o ∷ [])) ≡ cond (ltb 2147483647 (bonus (set os p o))) (refused 7) (good (boardOf (set os p o) ++ r))
+    climb-right : climbed l b (2 ^ l + p) (entryOf (o ∷ [])) ≡ cond (ltb maxBonus (bonus (set os p o))) (refused 7) (good (boardOf (set os p o) ++ r))
     climb-right =
         finished (climbs l os p o in-places b honest room top light-top l (2 ^ l + p) (entryOf (o ∷ [])) (top-of l p in-places)
         (omega (arith, pow-pos l), omega (arith, in-places)) (λ two x le off. off) (sym (entry-leaf l os p o in-p)) leaf-low)
 
 -- ---- what the board's calls use
-pub change : (os : List Object) (r : List ℕ) (p : ℕ) (o : Object) → Each ObjectWithin os → length os ≤ 8192 → bonus os ≤ 2147483647 → ObjectWithin o
+pub change : (os : List Object) (r : List ℕ) (p : ℕ) (o : Object) → Each ObjectWithin os → length os ≤ maxObjects → bonus os ≤ maxBonus → ObjectWithin o
     → p < length os
     → climbed (levelsOf (length os)) (boardOf os ++ r) (capOf (length os) + p) (entryOf (o ∷ []))
-    ≡ cond (ltb 2147483647 (bonus (set os p o))) (refused 7) (good (boardOf (set os p o) ++ r))
+    ≡ cond (ltb maxBonus (bonus (set os p o))) (refused 7) (good (boardOf (set os p o) ++ r))
 change os r p o w few low within in-p = climb-right os r w few low p o within in-p
 
-pub first-right : (os : List Object) (r : List ℕ) → Each ObjectWithin os → length os ≤ 8192 → bonus os ≤ 2147483647 → (p : ℕ) → p ≤ length os
+pub first-right : (os : List Object) (r : List ℕ) → Each ObjectWithin os → length os ≤ maxObjects → bonus os ≤ maxBonus → (p : ℕ) → p ≤ length os
     → walked (levelsOf (length os) + 1) (boardOf os ++ r) 1 p noEntry ≡ good (entryOf (take p os))
 first-right os r w few low p h =
     walk-right (levelsOf (length os)) os (boardOf os ++ r) (ok os r w few low) (honest os r w few low)

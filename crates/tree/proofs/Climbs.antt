@@ -7,6 +7,7 @@ use native.Mathlib.Omega.{arith}
 use native.Mathlib.Decide.{ℕ-discrete}
 use borrow.Author.Tests.{eq-eqb, ne-eqb, ltb-false, not-false}
 use lib.Dec.{ltb, eqb}
+use Rattle.records.specs.Limits.{maxBonus}
 use Rattle.records.specs.Refusals.{Checked, good, refused, _>>=_, _>>_, refuse_when_}
 use Rattle.entries.specs.Entry.{joined, inLimits}
 use Rattle.entries.specs.Words.{entryAt, putEntry}
@@ -30,13 +31,13 @@ beside-pair e = go (ℕ-discrete (e % 2) 0)
 -- ---- an entry that passes is within all limits
 pub limited-in : (e u : Entry) → limited e ≡ good u → inLimits u ≡ true
 unfolding limited _>>_ refuse_when_
-limited-in e u h = go (inLimits (withoutLegacy e)) refl (ltb 2147483647 (e .«legacy_bonus_score»)) refl h
+limited-in e u h = go (inLimits (withoutLegacy e)) refl (ltb maxBonus (e .«legacy_bonus_score»)) refl h
   where
-    go : (a : Bool) → inLimits (withoutLegacy e) ≡ a → (b : Bool) → ltb 2147483647 (e .«legacy_bonus_score») ≡ b
+    go : (a : Bool) → inLimits (withoutLegacy e) ≡ a → (b : Bool) → ltb maxBonus (e .«legacy_bonus_score») ≡ b
         → ((refuse 13 when not a) >> ((refuse 7 when b) >> good e)) ≡ good u → inLimits u ≡ true
     go false p b q h = never (cc)
     go true p true q h = never (cc)
-    go true p false q h = let same : e ≡ u = cc in ap inLimits (sym same) ∙ legacy-in e p (ltb-false 2147483647 _ q)
+    go true p false q h = let same : e ≡ u = cc in ap inLimits (sym same) ∙ legacy-in e p (ltb-false maxBonus _ q)
 
 pub above-in : (e : ℕ) (v w u : Entry) → aboveOf e v w ≡ good u → inLimits u ≡ true
 unfolding aboveOf _>>_ refuse_when_

@@ -11,6 +11,7 @@ use borrow.Author.Tests.{le-ltb}
 use lib.ListN.{take, drop, take-append-drop}
 use lib.Seq.{take-add}
 use lib.Pow.{pow-pos, pow-add, pow-mono}
+use Rattle.records.specs.Limits.{maxBonus}
 use Rattle.records.specs.Refusals.{Checked, good, refused, _>>_, refuse_when_}
 use Rattle.records.specs.Objects.{Object}
 use Rattle.entries.specs.Entry.{none, joined, entryOf, inLimits}
@@ -31,7 +32,7 @@ use Rattle.tree.proofs.Within.{parts-in}
 after-good : (a w : Entry) → inLimits w ≡ true → inLimits (joined a w) ≡ true → afterOf a w ≡ good (joined a w)
 unfolding afterOf limited _>>_ refuse_when_
 after-good a w h k =
-    let low : joined a w .«legacy_bonus_score» ≤ 2147483647 = word-le (joined a w) k 5 (omega arith) in
+    let low : joined a w .«legacy_bonus_score» ≤ maxBonus = word-le (joined a w) k 5 (omega arith) in
     simp (h, light-of (joined a w) k, le-ltb _ _ low)
 
 covered-more : (os : List Object) (c n x : ℕ) → c ≤ x * 2 ^ n → (k : ℕ) → covered (suc n) c os x ≡ covered (suc (n + k)) c os x

@@ -9,8 +9,9 @@ use borrow.Author.Tests.{le-leb, lt-leb, ltb-true, ltb-false}
 use lib.Dec.{leb, ltb}
 use lib.ListN.{length}
 use lib.Pow.{pow-pos}
+use Rattle.records.specs.Limits.{maxObjects}
 use Rattle.records.specs.Refusals.{Checked, good, refused, _>>=_, _>>_, refuse_when_}
-use Rattle.entries.specs.Entry.{none, joined, inLimits}
+use Rattle.entries.specs.Entry.{none, joined, inLimits, placeWords, entryWords}
 use Rattle.entries.specs.Words.{entryAt}
 use Rattle.entries.specs.declared.entry.Entry.{Entry}
 use Rattle.tree.specs.Limited.{limited, afterOf, combinedOf}
@@ -82,8 +83,8 @@ pub record Walking (b : List ℕ) (t₀ t : Prefix) : Type 0 where
   pub width : t .width ≡ 2 ^ t .left / 2
   pub reach : t .x * t .width + t .rest ≤ 2 * t₀ .width
   pub fit : inLimits (t .sum) ≡ true
-  pub cap : t₀ .width ≤ 8192
-  pub room : t₀ .width * 26 ≤ length b
+  pub cap : t₀ .width ≤ maxObjects
+  pub room : t₀ .width * placeWords ≤ length b
 
 module _ {b : List ℕ} {t₀ t : Prefix} (k : Walking b t₀ t) where
   module _ (pos : 0 < t .left) where
@@ -93,14 +94,14 @@ module _ {b : List ℕ} {t₀ t : Prefix} (k : Walking b t₀ t) where
     some : 0 < t .width
     some = subst (λ (m : ℕ). 0 < m) (sym width-is) (pow-pos (t .left - 1))
 
-    pub x-small : t .x ≤ 16384
+    pub x-small : t .x ≤ (2 * maxObjects)
     x-small =
         let h = le-mul-of-pos-right (t .x) some in
         let r = k .reach in
         let c = k .cap in
         omega (arith, h, r, c)
 
-    pub x-inside : t .width ≤ t .rest → t .x * 13 + 13 ≤ length b
+    pub x-inside : t .width ≤ t .rest → t .x * entryWords + entryWords ≤ length b
     x-inside h =
         let n = le-mul-of-pos-right (t .x + 1) some in
         let m = add-mul (t .x) 1 (t .width) in
@@ -176,7 +177,7 @@ module _ {b : List ℕ} {t₀ t : Prefix} (k : Walking b t₀ t) where
   pub at-last : t .left ≤ 0 → combined.Is (t .sum) ≡ combinedOf (walkedAt b t₀)
   at-last h = sym (ap combinedOf (sym (k .same) ∙ at-end (t .left) b (t .x) (t .rest) (t .sum) h))
 
-pub walking-start : (b : List ℕ) (levels cap p : ℕ) → cap ≡ 2 ^ levels → cap ≤ 8192 → p ≤ cap → cap * 26 ≤ length b
+pub walking-start : (b : List ℕ) (levels cap p : ℕ) → cap ≡ 2 ^ levels → cap ≤ maxObjects → p ≤ cap → cap * placeWords ≤ length b
     → Walking b (record { left = levels + 1; x = 1; width = cap; rest = p; sum = none }) (record { left = levels + 1; x = 1; width = cap; rest = p; sum = none })
 walking-start b levels cap p e few least room =
     let z : levels + 1 - 1 ≡ levels = omega arith in

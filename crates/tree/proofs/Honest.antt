@@ -11,9 +11,10 @@ use native.Mathlib.Decide.{ℕ-discrete}
 use borrow.Author.Tests.{eq-eqb, ne-eqb, lt-ltb, le-ltb, ltb-true, ltb-false}
 use lib.Dec.{ltb}
 use lib.ListN.{length, set}
+use Rattle.records.specs.Limits.{maxBonus}
 use Rattle.records.specs.Refusals.{Checked, good, refused, _>>_, refuse_when_}
 use Rattle.records.specs.Objects.{Object}
-use Rattle.entries.specs.Entry.{joined, inLimits}
+use Rattle.entries.specs.Entry.{joined, inLimits, entryWords}
 use Rattle.entries.specs.Words.{entryAt, putEntry}
 use Rattle.entries.specs.declared.entry.Entry.{Entry}
 use Rattle.entries.proofs.WordLaws.{put-same, put-other}
@@ -53,11 +54,11 @@ off-above zero x e h = omega arith
 off-above (suc n) x e h = (omega arith, off-above n x (e / 2) (omega arith))
 
 -- ---- an entry whose words but the legacy bonus are within the limits
-limited-low : (e : Entry) → inLimits (withoutLegacy e) ≡ true → e .«legacy_bonus_score» ≤ 2147483647 → limited e ≡ good e
+limited-low : (e : Entry) → inLimits (withoutLegacy e) ≡ true → e .«legacy_bonus_score» ≤ maxBonus → limited e ≡ good e
 unfolding limited _>>_ refuse_when_
 limited-low e h l = simp (h, le-ltb _ _ l)
 
-limited-high : (e : Entry) → inLimits (withoutLegacy e) ≡ true → 2147483647 < e .«legacy_bonus_score» → limited e ≡ refused 7
+limited-high : (e : Entry) → inLimits (withoutLegacy e) ≡ true → maxBonus < e .«legacy_bonus_score» → limited e ≡ refused 7
 unfolding limited _>>_ refuse_when_
 limited-high e h l = simp (h, lt-ltb _ _ l)
 
@@ -89,10 +90,10 @@ module _ (l : ℕ) (os : List Object) (p : ℕ) (o : Object) (in-p : p < 2 ^ l) 
     pub new : (x : ℕ) → In x → (entryAt b′ x ≡ F′ x) ⊎ Off n x e
 
   pub data Climbs (n e : ℕ) (v : Entry) : Type 0 where
-    high : climbed n b e v ≡ refused 7 → 2147483647 < F′ 1 .«legacy_bonus_score» → Climbs n e v
-    done : (b′ : List ℕ) → climbed n b e v ≡ good b′ → F′ 1 .«legacy_bonus_score» ≤ 2147483647 → After n e b′ → Climbs n e v
+    high : climbed n b e v ≡ refused 7 → maxBonus < F′ 1 .«legacy_bonus_score» → Climbs n e v
+    done : (b′ : List ℕ) → climbed n b e v ≡ good b′ → F′ 1 .«legacy_bonus_score» ≤ maxBonus → After n e b′ → Climbs n e v
 
-  module _ (honest : (x : ℕ) → In x → entryAt b x ≡ F x) (room : 2 * 2 ^ l * 13 ≤ length b) (ok : inLimits (F 1) ≡ true)
+  module _ (honest : (x : ℕ) → In x → entryAt b x ≡ F x) (room : 2 * 2 ^ l * entryWords ≤ length b) (ok : inLimits (F 1) ≡ true)
       (light-top : inLimits (withoutLegacy (F′ 1)) ≡ true) where
     light : (x : ℕ) → In x → inLimits (withoutLegacy (F′ x)) ≡ true
     light x i = all-light l (set os p o) light-top x (i .0) (i .1)
@@ -106,20 +107,20 @@ module _ (l : ℕ) (os : List Object) (p : ℕ) (o : Object) (in-p : p < 2 ^ l) 
         go x (no d) (inl s) = inl (put-other b′ e x v d ∙ s)
         go x (no d) (inr off) = inr (d, off)
 
-    high-up : (x : ℕ) → In x → 2147483647 < F′ x .«legacy_bonus_score» → 2147483647 < F′ 1 .«legacy_bonus_score»
+    high-up : (x : ℕ) → In x → maxBonus < F′ x .«legacy_bonus_score» → maxBonus < F′ 1 .«legacy_bonus_score»
     high-up x i h = let t = legacy-top l (set os p o) x (i .0) (i .1) in omega (arith, t, h)
 
     -- one level up: the entry above is that of the changed map
     step : (n e : ℕ) (v w : Entry) → In e → 2 ≤ e → v ≡ F′ e → w ≡ entryAt b (besideOf e) → aboveOf e v w ≡ limited (F′ (e / 2)) → (f : Bool)
-        → ltb 2147483647 (F′ (e / 2) .«legacy_bonus_score») ≡ f → (F′ (e / 2) .«legacy_bonus_score» ≤ 2147483647 → Climbs n (e / 2) (F′ (e / 2))) → Climbs (suc n) e v
+        → ltb maxBonus (F′ (e / 2) .«legacy_bonus_score») ≡ f → (F′ (e / 2) .«legacy_bonus_score» ≤ maxBonus → Climbs n (e / 2) (F′ (e / 2))) → Climbs (suc n) e v
     step n e v w i two is is-w q true h ih =
-        let up : 2147483647 < F′ (e / 2) .«legacy_bonus_score» = ltb-true 2147483647 _ h in
+        let up : maxBonus < F′ (e / 2) .«legacy_bonus_score» = ltb-true maxBonus _ h in
         let here : In (e / 2) = (omega arith, omega arith) in
         high (stops b e v w is-w (suc n) 7 (suc-ne-zero n) (q ∙ limited-high (F′ (e / 2)) (light (e / 2) here) up)) (high-up (e / 2) here up)
     step n e v w i two is is-w q false h ih = join (ih low)
       where
-        low : F′ (e / 2) .«legacy_bonus_score» ≤ 2147483647
-        low = ltb-false 2147483647 _ h
+        low : F′ (e / 2) .«legacy_bonus_score» ≤ maxBonus
+        low = ltb-false maxBonus _ h
 
         passed : aboveOf e v w ≡ good (F′ (e / 2))
         passed = q ∙ limited-low (F′ (e / 2)) (light (e / 2) (omega arith, omega arith)) low
@@ -134,9 +135,9 @@ module _ (l : ℕ) (os : List Object) (p : ℕ) (o : Object) (in-p : p < 2 ^ l) 
         join (high r up) = high (stops-above b e v w is-w (F′ (e / 2)) passed (suc n) 7 (suc-ne-zero n) (below (refused 7) r)) up
         join (done b′ r ends a) = done (putEntry b′ e v) (goes-on b e v w is-w (F′ (e / 2)) passed (suc n) b′ (suc-ne-zero n) (below (good b′) r)) ends (put-after n e v b′ i is a)
 
-    pub climbs : (n e : ℕ) (v : Entry) → Top n e → In e → Near n e → v ≡ F′ e → F′ e .«legacy_bonus_score» ≤ 2147483647 → Climbs n e v
+    pub climbs : (n e : ℕ) (v : Entry) → Top n e → In e → Near n e → v ≡ F′ e → F′ e .«legacy_bonus_score» ≤ maxBonus → Climbs n e v
     climbs zero e v t i near is low =
-        done (putEntry b e v) (at-top 0 b e v refl) (subst (λ (y : ℕ). F′ y .«legacy_bonus_score» ≤ 2147483647) t low)
+        done (putEntry b e v) (at-top 0 b e v refl) (subst (λ (y : ℕ). F′ y .«legacy_bonus_score» ≤ maxBonus) t low)
         (record { kept = stored e v b (putEntry b e v) refl; new = λ x j. go x (ℕ-discrete x e) })
       where
         go : (x : ℕ) → Dec (x ≡ e) → (entryAt (putEntry b e v) x ≡ F′ x) ⊎ (x ≢ e)
@@ -153,5 +154,5 @@ module _ (l : ℕ) (os : List Object) (p : ℕ) (o : Object) (in-p : p < 2 ^ l) 
         let u = cond (lib.Dec.eqb (e % 2) 0) (joined v w) (joined w v) in
         let is-u : u ≡ F′ (e / 2) =
         ap₂ (λ (x y : Entry). cond (lib.Dec.eqb (e % 2) 0) (joined x y) (joined y x)) is is-w ∙ halves l (set os p o) e two (i .1) in
-        step n e v w i two is refl (above-is e v w (F′ (e / 2)) hw is-u) (ltb 2147483647 (F′ (e / 2) .«legacy_bonus_score»)) refl
+        step n e v w i two is refl (above-is e v w (F′ (e / 2)) hw is-u) (ltb maxBonus (F′ (e / 2) .«legacy_bonus_score»)) refl
         (λ h. climbs n (e / 2) (F′ (e / 2)) t (omega arith, omega arith) (near-up n e near) refl h)

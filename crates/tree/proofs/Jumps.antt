@@ -9,8 +9,9 @@ use native.Mathlib.Decide.{decLt}
 use borrow.Author.Tests.{lt-leb, le-ltb}
 use lib.ListN.{length}
 use lib.Pow.{pow-pos, pow-mono, pow-add}
+use Rattle.records.specs.Limits.{maxLevels, maxBonus}
 use Rattle.records.specs.Refusals.{Checked, good, refused, _>>_, refuse_when_}
-use Rattle.entries.specs.Entry.{none, joined, inLimits, SumOf}
+use Rattle.entries.specs.Entry.{none, joined, inLimits, SumOf, entryWords, placeWords}
 use Rattle.entries.specs.Words.{entryAt}
 use Rattle.entries.specs.declared.entry.Entry.{Entry}
 use Rattle.entries.proofs.Limits.{word-le, first-most, sum-of-none, sum-of-more, sum-of-joined}
@@ -45,7 +46,7 @@ none-left (suc n) b x a = rw (lt-leb _ _ (pow-pos n)) (none-left n b (x * 2) a)
 after-good : (a w : Entry) → inLimits w ≡ true → inLimits (joined a w) ≡ true → afterOf a w ≡ good (joined a w)
 unfolding afterOf limited _>>_ refuse_when_
 after-good a w hw h =
-    let low : joined a w .«legacy_bonus_score» ≤ 2147483647 = word-le (joined a w) h 5 (omega arith) in
+    let low : joined a w .«legacy_bonus_score» ≤ maxBonus = word-le (joined a w) h 5 (omega arith) in
     rw (hw, light-of (joined a w) h, le-ltb _ _ low)
 
 -- what the code was told of a sum
@@ -121,7 +122,7 @@ module _ {b : List ℕ} {levels cap p done rest : ℕ} {sum : Entry} (k : Summin
     entry-is : done / 2 ^ n ≡ entry
     entry-is = ap (λ (m : ℕ). m / 2 ^ n) (sym entry-here) ∙ mul-div-cancel entry (pow-pos n)
 
-    entry-inside : p ≤ cap → cap * 26 ≤ length b → done / 2 ^ n * 13 + 13 ≤ length b
+    entry-inside : p ≤ cap → cap * placeWords ≤ length b → done / 2 ^ n * entryWords + entryWords ≤ length b
     entry-inside least room =
         let m = le-mul-of-pos-right (entry + 1) (pow-pos n) in
         let d = add-mul entry 1 (2 ^ n) in
@@ -131,7 +132,7 @@ module _ {b : List ℕ} {levels cap p done rest : ℕ} {sum : Entry} (k : Summin
         rw entry-is (omega (arith, m, d, o, h, a, le, least, room))
 
     -- the entry taken
-    entry-taken : levels ≤ 13 → inLimits (entryAt b (done / 2 ^ n)) ≡ true
+    entry-taken : levels ≤ maxLevels → inLimits (entryAt b (done / 2 ^ n)) ≡ true
         → Summing b levels cap p (done + 2 ^ n) (rest - 2 ^ n) (joined sum (entryAt b (done / 2 ^ n)))
     entry-taken short fit =
         let h = below in
@@ -174,10 +175,10 @@ module _ {b : List ℕ} {levels cap p done rest : ℕ} {sum : Entry} (k : Summin
 
   -- the same as the code has it: the width of the entry, and the sum as it was told
   module _ (n w : ℕ) (is : w ≡ 2 ^ n) (le : w ≤ rest) (lt : rest < 2 * w) where
-    pub inside : p ≤ cap → cap * 26 ≤ length b → done / 2 ^ n * 13 + 13 ≤ length b
+    pub inside : p ≤ cap → cap * placeWords ≤ length b → done / 2 ^ n * entryWords + entryWords ≤ length b
     inside = entry-inside n (rw is at le) (rw is at lt)
 
-    pub summing-next : levels ≤ 13 → (u : Entry) → combined.Is u ≡ combinedOf (sumOf sum (entryAt b (done / 2 ^ n))) → Summing b levels cap p (done + w) (rest - w) u
+    pub summing-next : levels ≤ maxLevels → (u : Entry) → combined.Is u ≡ combinedOf (sumOf sum (entryAt b (done / 2 ^ n))) → Summing b levels cap p (done + w) (rest - w) u
     summing-next short u told =
         let h = sum-told sum (entryAt b (done / 2 ^ n)) u told in
         rw (is, h .1) (entry-taken n (rw is at le) (rw is at lt) short (h .0))
@@ -187,5 +188,5 @@ module _ {b : List ℕ} {levels cap p done rest : ℕ} {sum : Entry} (k : Summin
       let z : rest ≡ 0 = omega (arith, h) in
       sym (ap combinedOf (sym (k .same fit) ∙ ap (λ (m : ℕ). walked (k .level) b (k .x) m sum) z ∙ none-left (k .level) b (k .x) sum))
 
-  pub sums-fit : levels ≤ 13 → SumOf 14 sum
+  pub sums-fit : levels ≤ maxLevels → SumOf (maxLevels + 1) sum
   sums-fit short = let f = k .few in sum-of-more (k .taken) 14 sum (omega (arith, f, short)) (k .sums)

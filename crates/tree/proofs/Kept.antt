@@ -4,6 +4,7 @@ use mathlib.Core.Path.{_≡_, refl, _∙_, subst}
 use mathlib.Core.List.{List}
 use native.Mathlib.Omega.{arith}
 use lib.ListN.{length, drop}
+use Rattle.entries.specs.Entry.{entryWords}
 use Rattle.records.specs.Refusals.{Checked, good, refused, _>>=_}
 use Rattle.records.proofs.Laws.{never}
 use Rattle.entries.specs.Words.{entryAt, putEntry}
@@ -16,7 +17,7 @@ use Rattle.tree.proofs.Covers.{Off}
 pub record Kept (n e : ℕ) (b b′ : List ℕ) : Type 0 where
   pub size : length b′ ≡ length b
   pub others : (x : ℕ) → Off n x e → entryAt b′ x ≡ entryAt b x
-  pub behind : (k : ℕ) → e * 13 + 13 ≤ k → drop k b′ ≡ drop k b
+  pub behind : (k : ℕ) → e * entryWords + entryWords ≤ k → drop k b′ ≡ drop k b
 
 pub stored : (e : ℕ) (v : Entry) (b b′ : List ℕ) → putEntry b e v ≡ b′ → Kept 0 e b b′
 stored e v b b′ q = subst (Kept 0 e b) q (record {

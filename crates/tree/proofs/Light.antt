@@ -6,9 +6,10 @@ use mathlib.Core.Bool.{true}
 use mathlib.Core.List.{List}
 use native.Mathlib.Omega.{arith}
 use lib.ListN.{length, getD}
+use Rattle.records.specs.Limits.{maxBonus, maxObjects}
 use Rattle.records.specs.Objects.{Object, bonus}
 use Rattle.encoding.specs.Limits.{Each, ObjectWithin}
-use Rattle.entries.specs.Entry.{joined, entryOf, wordsOf, limitList, inLimits}
+use Rattle.entries.specs.Entry.{joined, entryOf, wordsOf, limitList, inLimits, entryWords}
 use Rattle.entries.specs.declared.entry.Entry.{Entry}
 use Rattle.entries.proofs.Accepted.{words-within}
 use Rattle.entries.proofs.Limits.{word-le, within-of, at-each}
@@ -24,7 +25,7 @@ other-word e (suc (suc (suc (suc zero)))) n = refl
 other-word e (suc (suc (suc (suc (suc zero))))) n = absurd (n refl)
 other-word e (suc (suc (suc (suc (suc (suc i)))))) n = refl
 
-light-words : (e : Entry) → ((i : ℕ) → i < 13 → i ≢ 5 → getD (wordsOf e) i 0 ≤ getD limitList i 0) → inLimits (withoutLegacy e) ≡ true
+light-words : (e : Entry) → ((i : ℕ) → i < entryWords → i ≢ 5 → getD (wordsOf e) i 0 ≤ getD limitList i 0) → inLimits (withoutLegacy e) ≡ true
 light-words e h =
     within-of (withoutLegacy e) (at-each 5 (omega arith) (λ i lt n. subst (λ (w : ℕ). w ≤ getD limitList i 0) (sym (other-word e i n)) (h i lt n)))
 
@@ -32,7 +33,7 @@ pub light-of : (e : Entry) → inLimits e ≡ true → inLimits (withoutLegacy e
 light-of e h = light-words e (λ i lt n. word-le e h i lt)
 
 -- an entry whose legacy bonus is within its limit too
-pub legacy-in : (e : Entry) → inLimits (withoutLegacy e) ≡ true → e .«legacy_bonus_score» ≤ 2147483647 → inLimits e ≡ true
+pub legacy-in : (e : Entry) → inLimits (withoutLegacy e) ≡ true → e .«legacy_bonus_score» ≤ maxBonus → inLimits e ≡ true
 legacy-in e h low =
     within-of e (at-each 5 low (λ i lt n. subst (λ (w : ℕ). w ≤ getD limitList i 0) (other-word e i n) (word-le (withoutLegacy e) h i lt)))
 
@@ -41,6 +42,6 @@ unfolding joined
 light-joined a b = refl
 
 -- a map's bonus, and one more object's
-pub entry-light : (os : List Object) → Each ObjectWithin os → length os ≤ 8192 → bonus os ≤ 2147483647 + 62965100
+pub entry-light : (os : List Object) → Each ObjectWithin os → length os ≤ maxObjects → bonus os ≤ maxBonus + 62965100
     → inLimits (withoutLegacy (entryOf os)) ≡ true
 entry-light os w few low = light-words (entryOf os) (words-within os w few low)

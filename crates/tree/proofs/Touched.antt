@@ -6,6 +6,7 @@ use native.Mathlib.Omega.{arith}
 use native.Mathlib.Nat.{div-one, div-div-eq-div-mul, mul-comm, mul-one, pow-suc}
 use native.Mathlib.Decide.{ℕ-discrete}
 use lib.ListN.{length, take, drop, set}
+use Rattle.entries.specs.Entry.{placeWords}
 use Rattle.records.specs.Refusals.{good}
 use Rattle.records.specs.Objects.{Object}
 use Rattle.entries.specs.Words.{entryAt}
@@ -92,7 +93,7 @@ module _ (os : List Object) (p : ℕ) (o : Object) where
 pub record OthersKept (n p : ℕ) (b b′ : List ℕ) : Type 0 where
   pub size : length b′ ≡ length b
   pub others : (x : ℕ) → (Covers (capOf n) x p → ⊥) → entryAt b′ x ≡ entryAt b x
-  pub behind : drop (26 * capOf n) b′ ≡ drop (26 * capOf n) b
+  pub behind : drop (placeWords * capOf n) b′ ≡ drop (placeWords * capOf n) b
 
 pub only-covering : (n p : ℕ) (b b′ : List ℕ) (v : Entry) → p < capOf n → climbed (levelsOf n) b (capOf n + p) v ≡ good b′ → OthersKept n p b b′
 only-covering n p b b′ v in-p h =
@@ -100,7 +101,7 @@ only-covering n p b b′ v in-p h =
     record {
       size = k .size;
       others = λ x not. k .others x (off-unless (levelsOf n) p in-p x not);
-      behind = k .behind (26 * capOf n) (omega (arith, in-p));
+      behind = k .behind (placeWords * capOf n) (omega (arith, in-p));
     }
 
 -- at most 14 entries cover a place

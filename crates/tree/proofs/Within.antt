@@ -10,7 +10,7 @@ use native.Mathlib.Decide.{ℕ-discrete}
 use lib.Arith.{bin-ind}
 use lib.ListN.{getD}
 use Rattle.records.specs.Objects.{Object}
-use Rattle.entries.specs.Entry.{joined, entryOf, wordsOf, inLimits}
+use Rattle.entries.specs.Entry.{joined, entryOf, wordsOf, inLimits, entryWords}
 use Rattle.entries.specs.declared.entry.Entry.{Entry}
 use Rattle.entries.proofs.Accepted.{entry-first}
 use Rattle.entries.proofs.Limits.{word-le, within-of, at-each, word-joined}
@@ -24,10 +24,10 @@ module _ (a b : Entry) where
   abbrev Below : Entry → ℕ → Type 0
   Below v i = getD (wordsOf v) i 0 ≤ getD (wordsOf (joined a b)) i 0
 
-  both : (i : ℕ) → i < 13 → i ≢ 3 → Below a i × Below b i
+  both : (i : ℕ) → i < entryWords → i ≢ 3 → Below a i × Below b i
   both i h n = let e = word-joined a b i h n in (omega (arith, e), omega (arith, e))
 
-  part-in : (v : Entry) → ((i : ℕ) → i < 13 → i ≢ 3 → Below v i) → v .«first_no_slider» ≤ 1 → inLimits (joined a b) ≡ true → inLimits v ≡ true
+  part-in : (v : Entry) → ((i : ℕ) → i < entryWords → i ≢ 3 → Below v i) → v .«first_no_slider» ≤ 1 → inLimits (joined a b) ≡ true → inLimits v ≡ true
   part-in v below f h = within-of v (at-each 3 f (λ i lt n. le-trans (below i lt n) (word-le (joined a b) h i lt)))
 
   pub parts-in : a .«first_no_slider» ≤ 1 → b .«first_no_slider» ≤ 1 → inLimits (joined a b) ≡ true → (inLimits a ≡ true) × (inLimits b ≡ true)

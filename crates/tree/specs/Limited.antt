@@ -3,7 +3,8 @@
 use Prim.Native.Nat.{ℕ}
 use mathlib.Core.Bool.{Bool, not}
 use lib.Dec.{ltb}
-use Rattle.records.specs.Refusals.{Checked, good, refused, _>>_, refuse_when_}
+use Rattle.records.specs.Limits.{maxBonus}
+use Rattle.records.specs.Refusals.{Checked, good, refused, _>>_, refuse_when_, BONUS, BOARD}
 use Rattle.entries.specs.Entry.{joined, inLimits}
 use Rattle.entries.specs.declared.entry.Entry.{Entry}
 use Rattle.tree.specs.declared.Combined.{Combined}
@@ -28,20 +29,20 @@ withoutLegacy e = record {
 
 unfoldable pub limited : Entry → Checked Entry
 limited e = do
-  refuse 13 when not (inLimits (withoutLegacy e))
-  refuse 7 when ltb 2147483647 (e .«legacy_bonus_score»)
+  refuse BOARD when not (inLimits (withoutLegacy e))
+  refuse BONUS when ltb maxBonus (e .«legacy_bonus_score»)
   good e
 
 -- the objects of a, then those of an entry as read
 unfoldable pub afterOf : Entry → Entry → Checked Entry
 afterOf a read = do
-  refuse 13 when not (inLimits read)
+  refuse BOARD when not (inLimits read)
   limited (joined a read)
 
 -- the same with the combination unchecked
 unfoldable pub sumOf : Entry → Entry → Checked Entry
 sumOf a read = do
-  refuse 13 when not (inLimits read)
+  refuse BOARD when not (inLimits read)
   good (joined a read)
 
 abbrev pub combinedOf : Checked Entry → Combined

@@ -3,7 +3,7 @@ use Prim.Native.Nat.{ℕ, zero, suc, _+_, _-_, _/_, _%_}
 use mathlib.Core.Bool.{Bool, cond, not}
 use mathlib.Core.List.{List}
 use lib.Dec.{eqb}
-use Rattle.records.specs.Refusals.{Checked, good, refused, _>>=_, _>>_, refuse_when_}
+use Rattle.records.specs.Refusals.{Checked, good, refused, _>>=_, _>>_, refuse_when_, BOARD}
 use Rattle.entries.specs.Entry.{joined, inLimits}
 use Rattle.entries.specs.Words.{entryAt, putEntry}
 use Rattle.entries.specs.declared.entry.Entry.{Entry}
@@ -18,7 +18,7 @@ besideOf e = cond (eqb (e % 2) 0) (e + 1) (e - 1)
 -- the entry above e, from v at e and what was read beside it
 unfoldable pub aboveOf : ℕ → Entry → Entry → Checked Entry
 aboveOf e v read = do
-  refuse 13 when not (inLimits read)
+  refuse BOARD when not (inLimits read)
   limited (cond (eqb (e % 2) 0) (joined v read) (joined read v))
 
 -- v at entry e and what follows from it at the n entries above

@@ -2,6 +2,7 @@
 use Prim.Native.Nat.{ℕ, zero, suc, _^_}
 use mathlib.Core.Bool.{cond}
 use lib.Dec.{leb}
+use Rattle.records.specs.Limits.{maxLevels}
 
 -- the least l, of at most k more, with n ≤ 2 ^ l
 unfoldable pub levelsFrom : ℕ → ℕ → ℕ → ℕ
@@ -9,7 +10,7 @@ levelsFrom zero n l = l
 levelsFrom (suc k) n l = cond (leb n (2 ^ l)) l (levelsFrom k n (suc l))
 
 unfoldable pub levelsOf : ℕ → ℕ
-levelsOf n = levelsFrom 13 n 0
+levelsOf n = levelsFrom maxLevels n 0
 
 abbrev pub capOf : ℕ → ℕ
 capOf n = 2 ^ levelsOf n

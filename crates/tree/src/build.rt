@@ -5,11 +5,12 @@ use entries::words::store;
 ghost use mathlib.Core.Path.{_≡_};
 ghost use Prim.Native.Nat.{_+_, _-_, _*_, _≤_};
 ghost use lib.ListN.{length};
+ghost use Rattle.entries.specs.Entry.{entryWords, placeWords};
 ghost use Rattle.tree.specs.Build.{cleared, emptied, raised, Raises, filled};
 
 // n zero entries from e on.
 fn clear(b: &mut [u64], e: usize, n: usize)
-    requires { ⌜ (e + n) * 13 ≤ length (now b) ⌝ }
+    requires { ⌜ (e + n) * entryWords ≤ length (now b) ⌝ }
     ensures { λ _. ⌜ now (b .exit) ≡ cleared e n (now (b .entry)) ⌝ }
 {
     let mut i = 0;
@@ -21,7 +22,7 @@ fn clear(b: &mut [u64], e: usize, n: usize)
 
 // The entries n, n - 1, .., 1, each from its two halves, which then stand already.
 fn raise(b: &mut [u64], n: usize)
-    requires { ⌜ (n * 26 + 26 ≤ length (now b)) × Raises n (now b) ⌝ }
+    requires { ⌜ (n * placeWords + placeWords ≤ length (now b)) × Raises n (now b) ⌝ }
     ensures { λ _. ⌜ now (b .exit) ≡ raised n (now (b .entry)) ⌝ }
 {
     let mut e = n;
@@ -35,7 +36,7 @@ fn raise(b: &mut [u64], n: usize)
 
 // Completes a board of cap places whose first count places have their own entries.
 pub fn fill(b: &mut [u64], cap: usize, count: usize)
-    requires { ⌜ (1 ≤ cap) × (count ≤ cap) × (cap * 26 ≤ length (now b)) × Raises (cap - 1) (emptied cap count (now b)) ⌝ }
+    requires { ⌜ (1 ≤ cap) × (count ≤ cap) × (cap * placeWords ≤ length (now b)) × Raises (cap - 1) (emptied cap count (now b)) ⌝ }
     ensures { λ _. ⌜ now (b .exit) ≡ filled cap count (now (b .entry)) ⌝ }
 {
     store(b, 0, Entry::new());

@@ -6,11 +6,13 @@ use crate::quick::largest_width;
 use entries::entry::Entry;
 use entries::words::load;
 use entries::words::store;
+use records::refusal;
 ghost use mathlib.Core.Path.{_≡_};
 ghost use mathlib.Core.Bool.{true};
 ghost use Prim.Native.Nat.{_+_, _*_, _/_, _^_, _≤_, _<_};
 ghost use lib.ListN.{length};
-ghost use Rattle.entries.specs.Entry.{none, inLimits};
+ghost use Rattle.records.specs.Limits.{maxLevels, maxObjects};
+ghost use Rattle.entries.specs.Entry.{none, inLimits, placeWords, entryWords};
 ghost use Rattle.tree.specs.Limited.{withoutLegacy, limited, afterOf, combinedOf};
 ghost use Rattle.tree.specs.Size.{levelsOf, capOf};
 ghost use Rattle.tree.specs.First.{walked, turnedOf};
@@ -41,10 +43,10 @@ fn limit(e: Entry) -> Combined
     ensures { λ r. ⌜ r ≡ combinedOf (limited e) ⌝ }
 {
     if !without_legacy(e).within() {
-        return Combined::Refused(13);
+        return Combined::Refused(refusal::BOARD);
     }
     if Entry::MAX_SCORE < e.legacy_bonus_score {
-        return Combined::Refused(7);
+        return Combined::Refused(refusal::BONUS);
     }
     Combined::Is(e)
 }
@@ -55,7 +57,7 @@ pub fn after(a: Entry, read: Entry) -> Combined
     ensures { λ r. ⌜ r ≡ combinedOf (afterOf a read) ⌝ }
 {
     if !read.within() {
-        return Combined::Refused(13);
+        return Combined::Refused(refusal::BOARD);
     }
     limit(a.join(read))
 }
@@ -73,7 +75,7 @@ fn above(e: usize, v: Entry, read: Entry) -> Combined
     ensures { λ r. ⌜ r ≡ combinedOf (aboveOf e v read) ⌝ }
 {
     if !read.within() {
-        return Combined::Refused(13);
+        return Combined::Refused(refusal::BOARD);
     }
     if e % 2 == 0 {
         return limit(v.join(read));
@@ -83,7 +85,7 @@ fn above(e: usize, v: Entry, read: Entry) -> Combined
 
 // Reads the other half of each entry above e, from the bottom up, and writes only behind the last check.
 pub fn climb(b: &mut [u64], levels: usize, e: usize, v: Entry) -> Put
-    requires { ⌜ (e / 2 * 26 + 26 ≤ length (now b)) × (inLimits v ≡ true) ⌝ }
+    requires { ⌜ (e / 2 * placeWords + placeWords ≤ length (now b)) × (inLimits v ≡ true) ⌝ }
     ensures { λ r. ⌜ r ≡ putOf (climbed levels (now (b .entry)) e v) ⌝ }
     ensures { λ _. ⌜ now (b .exit) ≡ orElse (climbed levels (now (b .entry)) e v) (now (b .entry)) ⌝ }
 {
@@ -110,8 +112,8 @@ pub struct Size {
 
 // The levels of a board and its places, C.
 pub fn size_of(count: usize) -> Size
-    requires { ⌜ count ≤ 8192 ⌝ }
-    ensures { λ r. ⌜ (r .levels ≡ levelsOf count) × (r .cap ≡ capOf count) × (r .cap ≤ 8192) × (count ≤ r .cap) × (r .levels ≤ 13) ⌝ }
+    requires { ⌜ count ≤ maxObjects ⌝ }
+    ensures { λ r. ⌜ (r .levels ≡ levelsOf count) × (r .cap ≡ capOf count) × (r .cap ≤ maxObjects) × (count ≤ r .cap) × (r .levels ≤ maxLevels) ⌝ }
 {
     if count <= 1 {
         return Size { levels: 0, cap: 1 };
@@ -139,7 +141,7 @@ pub enum Turned {
 
 // Takes the entry if all that it covers is left to cover, and goes one level down.
 fn turn(b: &[u64], t: Prefix) -> Turned
-    requires { ⌜ (0 < t .left) × (t .x ≤ 16384) × (t .width ≤ t .rest → t .x * 13 + 13 ≤ length (now b)) × (inLimits (t .sum) ≡ true) ⌝ }
+    requires { ⌜ (0 < t .left) × (t .x ≤ (2 * maxObjects)) × (t .width ≤ t .rest → t .x * entryWords + entryWords ≤ length (now b)) × (inLimits (t .sum) ≡ true) ⌝ }
     ensures { λ r. ⌜ r ≡ turnedOf (now (b .entry)) t ⌝ }
 {
     let sum = t.sum;
@@ -166,7 +168,7 @@ fn turn(b: &[u64], t: Prefix) -> Turned
 
 // Combines the largest entries that together cover just the first p places, from the left.
 pub fn sum_of_first(b: &[u64], size: Size, p: usize) -> Combined
-    requires { ⌜ (size .cap ≡ 2 ^ size .levels) × (size .levels ≤ 13) × (size .cap ≤ 8192) × (p ≤ size .cap) × (size .cap * 26 ≤ length (now b)) ⌝ }
+    requires { ⌜ (size .cap ≡ 2 ^ size .levels) × (size .levels ≤ maxLevels) × (size .cap ≤ maxObjects) × (p ≤ size .cap) × (size .cap * placeWords ≤ length (now b)) ⌝ }
     ensures { λ r. ⌜ r ≡ combinedOf (walked (size .levels + 1) (now (b .entry)) 1 p none) ⌝ }
 {
     let mut t = Prefix {

@@ -4,10 +4,12 @@ use crate::Size;
 use crate::sum_of_first;
 use entries::entry::Entry;
 use entries::words::load;
+use records::refusal;
 ghost use mathlib.Core.Path.{_≡_};
 ghost use Prim.Native.Nat.{_+_, _*_, _^_, _≤_, _<_};
 ghost use lib.ListN.{length};
-ghost use Rattle.entries.specs.Entry.{none, SumOf};
+ghost use Rattle.records.specs.Limits.{maxLevels, maxObjects};
+ghost use Rattle.entries.specs.Entry.{none, SumOf, entryWords, placeWords};
 ghost use Rattle.entries.specs.Words.{entryAt};
 ghost use Rattle.tree.specs.Limited.{combinedOf, sumOf};
 ghost use Rattle.tree.specs.First.{walked};
@@ -31,12 +33,12 @@ pub fn largest_width(n: usize) -> Width
 
 // The sum and an entry as read, whose own words are checked.
 fn add(b: &[u64], x: usize, sum: Entry) -> Combined
-    requires { ⌜ (x * 13 + 13 ≤ length (now b)) × SumOf 14 sum ⌝ }
+    requires { ⌜ (x * entryWords + entryWords ≤ length (now b)) × SumOf (maxLevels + 1) sum ⌝ }
     ensures { λ r. ⌜ r ≡ combinedOf (sumOf sum (entryAt (now (b .entry)) x)) ⌝ }
 {
     let read = load(b, x);
     if !read.within() {
-        return Combined::Refused(13);
+        return Combined::Refused(refusal::BOARD);
     }
     Combined::Is(sum.join(read))
 }
@@ -44,7 +46,7 @@ fn add(b: &[u64], x: usize, sum: Entry) -> Combined
 // As `sum_of_first`, which says what is wrong where the sum is not within its limits. One step for each binary digit of p that is 1: from the
 // left, each takes the largest entry that covers no more than is left.
 pub fn quick_sum_of_first(b: &[u64], size: Size, p: usize) -> Combined
-    requires { ⌜ (size .cap ≡ 2 ^ size .levels) × (size .levels ≤ 13) × (size .cap ≤ 8192) × (p ≤ size .cap) × (size .cap * 26 ≤ length (now b)) ⌝ }
+    requires { ⌜ (size .cap ≡ 2 ^ size .levels) × (size .levels ≤ maxLevels) × (size .cap ≤ maxObjects) × (p ≤ size .cap) × (size .cap * placeWords ≤ length (now b)) ⌝ }
     ensures { λ r. ⌜ r ≡ combinedOf (walked (size .levels + 1) (now (b .entry)) 1 p none) ⌝ }
 {
     let mut done = size.cap;

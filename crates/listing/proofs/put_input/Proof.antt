@@ -9,6 +9,9 @@ use Rattle.listing.specs.Listing.{inputText}
 use Rattle.listing.proofs.put_input.Statement.{statement}
 use Rattle.listing.proofs.put_input.Tie as tie
 
+cast-put-refused-line : tie.Need-cast-put-refused-line
+cast-put-refused-line c = search needs
+
 put-refused-line-requires : tie.Need-put-refused-line-requires
 put-refused-line-requires c κs = search needs
 
@@ -33,6 +36,7 @@ pub put-input-spec : {M : Type 1} → statement M
 put-input-spec =
     tie.close
     (tie.spec
+    cast-put-refused-line
     put-refused-line-requires
     same-length
     returns

@@ -7,18 +7,15 @@ use Rattle.popejoanplum.proofs.pjp_board_words.Tie as tie
 returns : tie.Need-returns
 returns c = simp (lt-ltb _ _ (c .if1 .taken))
 
-mul-result : tie.Need-mul-result
-mul-result c = search needs
-
 size-of-requires : tie.Need-size-of-requires
 size-of-requires c κs = search needs
 
-mul-result-2 : tie.Need-mul-result-2
-mul-result-2 c = search needs
+mul-result : tie.Need-mul-result
+mul-result c = search needs
 
 returns-2 : tie.Need-returns-2
 returns-2 c = simp (le-ltb _ _ (c .before .before .if1 .left), c .before .size-of .ensures .1)
 
 pub pjp-board-words-spec : {M : Type 1} → statement M
 pjp-board-words-spec =
-    tie.close (tie.spec returns mul-result size-of-requires mul-result-2 returns-2)
+    tie.close (tie.spec returns size-of-requires mul-result returns-2)

@@ -6,6 +6,7 @@ use native.Mathlib.Nat.{pow-suc, le-of-suc-le-suc}
 use native.Mathlib.Numerals.{add-one}
 use lib.Pow.{pow-mono}
 use borrow.Author.Needs.{needs}
+use Rattle.records.specs.Limits.{maxLevels, maxObjects}
 use Rattle.tree.specs.Size.{levelsOf, capOf}
 use Rattle.tree.proofs.Levels.{below-13, levels-are}
 use Rattle.tree.proofs.size_of.Statement.{statement}
@@ -13,12 +14,12 @@ use Rattle.tree.proofs.size_of.Tie as tie
 
 -- the size for a count of which a power of two holds all, and half of it does not
 abbrev SizeFor : ℕ → ℕ → ℕ → Type 0
-SizeFor n l c = (l ≡ levelsOf n) × (c ≡ capOf n) × (c ≤ 8192) × (n ≤ c) × (l ≤ 13)
+SizeFor n l c = (l ≡ levelsOf n) × (c ≡ capOf n) × (c ≤ maxObjects) × (n ≤ c) × (l ≤ maxLevels)
 
-size-for : (n l : ℕ) → l ≤ 13 → n ≤ 2 ^ l → ((k : ℕ) → k < l → 2 ^ k < n) → SizeFor n l (2 ^ l)
+size-for : (n l : ℕ) → l ≤ maxLevels → n ≤ 2 ^ l → ((k : ℕ) → k < l → 2 ^ k < n) → SizeFor n l (2 ^ l)
 size-for n l h hold small =
     let e = levels-are n l h hold small in
-    (e, ap (λ (m : ℕ). 2 ^ m) e, pow-mono {i = l} {j = 13} h, hold, h)
+    (e, ap (λ (m : ℕ). 2 ^ m) e, pow-mono {i = l} {j = maxLevels} h, hold, h)
 
 returns : tie.Need-returns
 returns c = size-for (c .before .args .count) 0 (omega arith) (c .if1 .taken) (λ k lt. absurd (omega (arith, lt)))
@@ -38,10 +39,10 @@ add-t5 c = search needs
 mul-t6 : tie.Need-mul-t6
 mul-t6 c = search needs
 
-doubled : (n l w : ℕ) → n ≤ 8192 → w ≡ 2 ^ l → w ≤ n - 1 → n - 1 < 2 * w → 0 < w → SizeFor n (l + 1) (w * 2)
+doubled : (n l w : ℕ) → n ≤ maxObjects → w ≡ 2 ^ l → w ≤ n - 1 → n - 1 < 2 * w → 0 < w → SizeFor n (l + 1) (w * 2)
 doubled n l w few is le lt some =
     let twice : w * 2 ≡ 2 ^ (l + 1) = ap (λ (m : ℕ). m * 2) is ∙ sym (ap (λ (m : ℕ). 2 ^ m) (add-one l) ∙ pow-suc 2 l) in
-    let high : l < 13 = below-13 l (omega (arith, is, le, few, some)) in
+    let high : l < maxLevels = below-13 l (omega (arith, is, le, few, some)) in
     subst (SizeFor n (l + 1)) (sym twice)
     (size-for n (l + 1) (omega (arith, high)) (omega (arith, twice, lt))
     (λ k low. let m = pow-mono {i = k} {j = l} (omega (arith, low)) in omega (arith, m, is, le, some)))

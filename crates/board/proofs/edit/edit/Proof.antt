@@ -6,6 +6,7 @@ use mathlib.Core.List.{List, [], _∷_}
 use native.Mathlib.Omega.{arith}
 use lib.Ieee.{Float}
 use lib.ListN.{length}
+use Rattle.records.specs.Limits.{maxNested}
 use Rattle.records.specs.Refusals.{Checked}
 use Rattle.records.specs.declared.hit_object.HitObject.{HitObject}
 use Rattle.records.proofs.Laws.{so}
@@ -63,7 +64,7 @@ own-requires c κs =
     let at2 = at1 .before .before in
     let at3 = at2 .before .before .before .before .before .before .before .before .before .before .before in
     let found = edits.is-alone (at3 .args .bytes .now) _ (so (at1 .object .given .1) (at2 .read-alone .ensures)) in
-    subst (λ (h : HitObject). nestedCount (h .kind) ≤ 1000) (sym (found .same)) (kind-few (found .found .kind) (found .within .kind))
+    subst (λ (h : HitObject). nestedCount (h .kind) ≤ maxNested) (sym (found .same)) (kind-few (found .found .kind) (found .within .kind))
 
 put-at-requires : tie.Need-put-at-requires
 put-at-requires c κs =

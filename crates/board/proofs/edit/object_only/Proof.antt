@@ -21,13 +21,13 @@ returns : tie.Need-returns
 returns c = sym (ap onlyOf (c .before .item .given .1))
 
 returns-2 : tie.Need-returns-2
-returns-2 c = search needs
+returns-2 c = sym (ap onlyOf (c .enum-told .given .1))
 
 returns-3 : tie.Need-returns-3
-returns-3 c = search needs
+returns-3 c = sym (ap onlyOf (c .enum-told2 .given .1))
 
 returns-4 : tie.Need-returns-4
-returns-4 c = search needs
+returns-4 c = sym (ap onlyOf (c .enum-told3 .given .1))
 
 pub object-only-spec : {M : Type 1} → statement M
 object-only-spec =

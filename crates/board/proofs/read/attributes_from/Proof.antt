@@ -1,6 +1,7 @@
 -- The drain and the multiplier are those of the definition; the words within the limits leave room in the attributes.
 use mathlib.Core.Path.{_≡_, refl, sym, ap, _∙_, subst}
 use native.Mathlib.Omega.{arith}
+use Rattle.records.specs.Limits.{maxObjects}
 use Rattle.ruleset.specs.Stars.{multiplierOf}
 use Rattle.ruleset.proofs.Signs.{kept}
 use Rattle.simulator.specs.Limits.{Bounded, Counted}
@@ -31,7 +32,7 @@ score-attributes-requires c κs =
     let at1 = c .before .before in
     let at2 = at1 .before .before .before .before .before in (
       subst Bounded (sym (c .before .state-in .ensures)) (state-bounded (at2 .args .found .sum) (at2 .pre .2)),
-      subst (Counted 8192) (sym (c .counts-in .ensures)) (counts-bounded (at2 .args .found .sum) (at2 .pre .2)),
+      subst (Counted maxObjects) (sym (c .counts-in .ensures)) (counts-bounded (at2 .args .found .sum) (at2 .pre .2)),
       at1 .score-multiplier .ensures .1,
     )
 

@@ -1,8 +1,9 @@
 -- What is left to look at decides.
 use mathlib.Core.Path.{_≡_, refl, sym, ap, _∙_}
-use mathlib.Core.Bool.{Bool, true, false, _||_}
+use mathlib.Core.Bool.{Bool, true, false, not, _||_}
 use Prim.Native.Nat.{_+_, _-_, _≤_}
 use native.Mathlib.Omega.{arith}
+use borrow.Author.Tests.{not-true, not-false}
 use lib.ListN.{length, drop}
 use borrow.Author.Needs.{needs}
 use Rattle.records.proofs.Laws.{so}
@@ -20,14 +21,14 @@ abbrev μ-loop : tie.MeasureT-loop
 loop-holds : tie.Need-loop-holds Inv-loop μ-loop
 loop-holds c = (omega arith, refl)
 
-mul-is-bad-time : tie.Need-mul-is-bad-time Inv-loop μ-loop
-mul-is-bad-time c = omega arith
+mul-is-time : tie.Need-mul-is-time Inv-loop μ-loop
+mul-is-time c = omega arith
 
-shared-slice-read-is-bad-time : tie.Need-shared-slice-read-is-bad-time Inv-loop μ-loop
-shared-slice-read-is-bad-time c = omega arith
+shared-slice-read-is-time : tie.Need-shared-slice-read-is-time Inv-loop μ-loop
+shared-slice-read-is-time c = omega arith
 
-is-bad-time-requires : tie.Need-is-bad-time-requires Inv-loop μ-loop
-is-bad-time-requires c κs = search needs
+is-time-requires : tie.Need-is-time-requires Inv-loop μ-loop
+is-time-requires c κs = search needs
 
 returns : tie.Need-returns Inv-loop μ-loop
 returns c =
@@ -35,7 +36,7 @@ returns c =
     let at2 = at1 .before .before in
     let l = at2 .args .times .now in
     let i = at1 .loop .i in
-    sym (sym (at1 .loop .inv .1) ∙ times-at l i (omega arith) ∙ ap (λ (t : Bool). t || timesBad (drop (i + 1) l)) (so (c .before .is-bad-time .ensures) (c .if1 .taken)))
+    sym (sym (at1 .loop .inv .1) ∙ times-at l i (omega arith) ∙ ap (λ (t : Bool). t || timesBad (drop (i + 1) l)) (ap not (so (c .before .is-time .ensures) (not-true _ (c .if1 .taken)))))
 
 add-i : tie.Need-add-i Inv-loop μ-loop
 add-i c = omega arith
@@ -50,7 +51,7 @@ loop-again c =
     let l = at2 .args .times .now in
     let i = at1 .loop .i in (
       omega arith,
-      sym (times-at l i (omega arith) ∙ ap (λ (t : Bool). t || timesBad (drop (i + 1) l)) (so (c .before .is-bad-time .ensures) (c .if1 .left))) ∙ at1 .loop .inv .1,
+      sym (times-at l i (omega arith) ∙ ap (λ (t : Bool). t || timesBad (drop (i + 1) l)) (ap not (so (c .before .is-time .ensures) (not-false _ (c .if1 .left))))) ∙ at1 .loop .inv .1,
     )
 
 returns-2 : tie.Need-returns-2 Inv-loop μ-loop
@@ -65,9 +66,9 @@ has-bad-times-spec =
     Inv-loop
     μ-loop
     loop-holds
-    mul-is-bad-time
-    shared-slice-read-is-bad-time
-    is-bad-time-requires
+    mul-is-time
+    shared-slice-read-is-time
+    is-time-requires
     returns
     add-i
     loop-less

@@ -3,6 +3,7 @@ use mathlib.Core.Path.{_≡_, refl, sym, ap, _∙_, subst}
 use native.Mathlib.Omega.{arith}
 use Prim.Native.Nat.{ℕ, _+_, _*_, _≤_, _^_}
 use lib.Pow.{pow-mono}
+use Rattle.records.specs.Limits.{maxLevels, maxObjects}
 use Rattle.records.proofs.Laws.{so}
 use Rattle.records.specs.Refusals.{good, refused}
 use Rattle.entries.specs.Entry.{none}
@@ -26,7 +27,7 @@ quick-sum-of-first-requires c κs =
     let cap = holds .cap in
     let levels = holds .levels in
     let words = holds .words in
-    let high : capOf (a .count) ≤ 8192 = pow-mono {i = levelsOf (a .count)} {j = 13} most in
+    let high : capOf (a .count) ≤ maxObjects = pow-mono {i = levelsOf (a .count)} {j = maxLevels} most in
     (cap ∙ ap (λ (l : ℕ). 2 ^ l) (sym levels), omega (arith, levels, most), omega (arith, cap, high), omega (arith, cap, places, at1 .pre .1), omega (arith, cap, words))
 
 enum-known-number : tie.Need-enum-known-number

@@ -1,7 +1,7 @@
 -- The tests are the definition's, on the starts at both places.
 use mathlib.Core.Path.{sym, ap, _∙_}
 use native.Mathlib.Omega.{arith}
-use borrow.Author.Tests.{eq-eqb, ne-eqb}
+use borrow.Author.Tests.{eq-eqb, ne-eqb, not-true, not-false}
 use lib.Ieee.{ofBits, ofInt, round}
 use Rattle.records.specs.Refusals.{_>>=_, _>>_, refuse_when_}
 use Rattle.records.proofs.Laws.{so}
@@ -26,16 +26,16 @@ mul-last c = search needs
 shared-slice-read-last : tie.Need-shared-slice-read-last
 shared-slice-read-last c = search needs
 
-is-bad-time-requires : tie.Need-is-bad-time-requires
-is-bad-time-requires c κs = search needs
+is-time-requires : tie.Need-is-time-requires
+is-time-requires c κs = search needs
 
 returns-2 : tie.Need-returns-2
 unfolding startsIn _>>_ refuse_when_
 returns-2 c =
-    simp (ne-eqb _ _ (c .before .before .before .before .before .if1 .left), so (c .before .is-bad-time .ensures) (c .if2 .taken))
+    simp (ne-eqb _ _ (c .before .before .before .before .before .if1 .left), so (c .before .is-time .ensures) (not-true _ (c .if2 .taken)))
 
-is-bad-time-requires-2 : tie.Need-is-bad-time-requires-2
-is-bad-time-requires-2 c κs = search needs
+is-time-requires-2 : tie.Need-is-time-requires-2
+is-time-requires-2 c κs = search needs
 
 returns-3 : tie.Need-returns-3
 unfolding startsIn _>>_ refuse_when_
@@ -44,7 +44,7 @@ returns-3 c =
     let at2 = at1 .before in
     let at3 = at2 .before .before in
     let at4 = at3 .before .before in
-    simp (ne-eqb _ _ (at4 .if1 .left), so (at2 .is-bad-time .ensures) (at1 .if2 .left), sym (at3 .last-place .ensures), so (c .before .is-bad-time2 .ensures) (c .if3 .taken))
+    simp (ne-eqb _ _ (at4 .if1 .left), so (at2 .is-time .ensures) (not-false _ (at1 .if2 .left)), sym (at3 .last-place .ensures), so (c .before .is-time2 .ensures) (not-true _ (c .if3 .taken)))
 
 returns-4 : tie.Need-returns-4
 unfolding startsIn _>>_ refuse_when_
@@ -53,7 +53,7 @@ returns-4 c =
     let at2 = at1 .before in
     let at3 = at2 .before .before in
     let at4 = at3 .before .before in
-    simp (ne-eqb _ _ (at4 .if1 .left), so (at2 .is-bad-time .ensures) (at1 .if2 .left), sym (at3 .last-place .ensures), so (c .before .is-bad-time2 .ensures) (c .if3 .left))
+    simp (ne-eqb _ _ (at4 .if1 .left), so (at2 .is-time .ensures) (not-false _ (at1 .if2 .left)), sym (at3 .last-place .ensures), so (c .before .is-time2 .ensures) (not-false _ (c .if3 .left)))
 
 pub find-starts-spec : {M : Type 1} → statement M
 find-starts-spec =
@@ -64,8 +64,8 @@ find-starts-spec =
     last-place-requires
     mul-last
     shared-slice-read-last
-    is-bad-time-requires
+    is-time-requires
     returns-2
-    is-bad-time-requires-2
+    is-time-requires-2
     returns-3
     returns-4)

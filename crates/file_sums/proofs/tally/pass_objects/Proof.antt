@@ -5,6 +5,7 @@ use native.Mathlib.Omega.{arith}
 use denote.Ref.{now}
 use borrow.Author.Needs.{needs}
 use borrow.Author.Tests.{not-false}
+use Rattle.records.specs.Limits.{maxObjects}
 use Rattle.file_sums.specs.Runs.{none, TakesNext}
 use Rattle.simulator.proofs.Bounds.{within-more, counted-more}
 use Rattle.file_sums.proofs.Running.{Running, running-start, running-counts, running-step, behind}
@@ -23,8 +24,8 @@ may-run-requires c κs = tt
 returns : tie.Need-returns Inv-loop μ-loop
 returns c = none
 
-limit-of-requires : tie.Need-limit-of-requires Inv-loop μ-loop
-limit-of-requires c κs = tt
+least-requires : tie.Need-least-requires Inv-loop μ-loop
+least-requires c κs = search needs
 
 new-requires : tie.Need-new-requires Inv-loop μ-loop
 new-requires c κs = tt
@@ -39,7 +40,7 @@ loop-holds c =
 
 with-next-requires : tie.Need-with-next-requires Inv-loop μ-loop
 with-next-requires c κs =
-    let limit = c .before .before .before .before .limit-of .ensures in
+    let limit = c .before .before .before .before .least .ensures in
     (c .before .before .loop .inv .small, omega (arith, c .if2 .taken, limit))
 
 enum-known-next : tie.Need-enum-known-next Inv-loop μ-loop
@@ -58,7 +59,7 @@ loop-again c =
     let loop = c .before .before .before .before .before .before .loop in
     let start = c .before .before .before .before .before .before .before .before .before .before .before .before .before in
     let a = start .args in
-    let limit = c .before .before .before .before .before .before .before .before .limit-of .ensures in
+    let limit = c .before .before .before .before .before .before .before .before .least .ensures in
     running-step (now (a .s)) (a .passed) (a .reader) (a .sums) (loop .tally) _ (loop .inv) (omega (arith, c .before .before .before .before .if2 .taken, limit)) (subst (TakesNext (now (a .s)) (loop .tally)) (c .before .next .given .1) (at1 .with-next .ensures))
 
 enum-told : tie.Need-enum-told Inv-loop μ-loop
@@ -68,7 +69,7 @@ run-requires : tie.Need-run-requires Inv-loop μ-loop
 run-requires c κs =
     let inv = c .before .before .before .before .before .loop .inv in
     let pre = c .before .before .before .before .before .before .before .before .before .before .before .before .pre in
-    (inv .small, inv .began, within-more _ 8192 _ (pre .2) (pre .0), counted-more _ 8192 _ (pre .2) (pre .1))
+    (inv .small, inv .began, within-more _ maxObjects _ (pre .2) (pre .0), counted-more _ maxObjects _ (pre .2) (pre .1))
 
 returns-2 : tie.Need-returns-2 Inv-loop μ-loop
 returns-2 c =
@@ -80,7 +81,7 @@ run-requires-2 : tie.Need-run-requires-2 Inv-loop μ-loop
 run-requires-2 c κs =
     let inv = c .before .before .loop .inv in
     let pre = c .before .before .before .before .before .before .before .before .before .pre in
-    (inv .small, inv .began, within-more _ 8192 _ (pre .2) (pre .0), counted-more _ 8192 _ (pre .2) (pre .1))
+    (inv .small, inv .began, within-more _ maxObjects _ (pre .2) (pre .0), counted-more _ maxObjects _ (pre .2) (pre .1))
 
 returns-3 : tie.Need-returns-3 Inv-loop μ-loop
 returns-3 c =
@@ -96,7 +97,7 @@ pass-objects-spec =
     μ-loop
     may-run-requires
     returns
-    limit-of-requires
+    least-requires
     new-requires
     loop-holds
     with-next-requires

@@ -1,6 +1,7 @@
 -- By cases on the record.
 use Prim.Native.Nat.{ℕ, _+_, _≤_, _<_}
 use native.Mathlib.Omega.{arith}
+use Rattle.records.specs.Limits.{maxBreaks}
 use Rattle.map_file.specs.View.{Fits}
 use Rattle.map_file.specs.View.{countedIn}
 use borrow.Author.Needs.{needs}
@@ -17,7 +18,7 @@ add-t7 : tie.Need-add-t7
 add-t7 c =
     let at1 = c .before in
     let at2 = at1 .before .before in
-    let h : at2 .args .c .breaks < 128 = rw (at1 .enum-told2 .given .1) at (at2 .pre) in
+    let h : at2 .args .c .breaks < maxBreaks = rw (at1 .enum-told2 .given .1) at (at2 .pre) in
     omega arith
 
 enum-told-3 : tie.Need-enum-told-3

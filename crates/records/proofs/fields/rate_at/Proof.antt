@@ -1,4 +1,4 @@
--- The two tests are those of the range, on the float of the word at its place.
+-- The field is the float of the word at its place, held to the range.
 use mathlib.Core.Path.{sym}
 use borrow.Author.Needs.{needs}
 use Rattle.records.proofs.fields.rate_at.Statement.{statement}
@@ -10,23 +10,20 @@ word-at-requires c κs = search needs
 f64-from-bits-requires : tie.Need-f64-from-bits-requires
 f64-from-bits-requires c κs = search needs
 
+is-rate-requires : tie.Need-is-rate-requires
+is-rate-requires c κs = search needs
+
+double-if-requires : tie.Need-double-if-requires
+double-if-requires c κs = search needs
+
 returns : tie.Need-returns
 returns c =
     let at1 = c .before in
     let at2 = at1 .before in
     let at3 = at2 .before in
-    simp (sym (at3 .word-at .ensures .0), sym (at2 .f64-from-bits .ensures), at1 .if1 .taken, c .if2 .taken)
-
-returns-2 : tie.Need-returns-2
-returns-2 c =
-    let at1 = c .before in
-    let at2 = at1 .before in
-    let at3 = at2 .before in
-    simp (sym (at3 .word-at .ensures .0), sym (at2 .f64-from-bits .ensures), at1 .if1 .taken, c .if2 .left)
-
-returns-3 : tie.Need-returns-3
-returns-3 c = simp (sym (c .before .before .word-at .ensures .0), sym (c .before .f64-from-bits .ensures), c .if1 .left)
+    simp (sym (at3 .word-at .ensures .0), sym (at2 .f64-from-bits .ensures), sym (at1 .is-rate .ensures)) (c .double-if .ensures)
 
 pub rate-at-spec : {M : Type 1} → statement M
 rate-at-spec =
-    tie.close (tie.spec word-at-requires f64-from-bits-requires returns returns-2 returns-3)
+    tie.close
+    (tie.spec word-at-requires f64-from-bits-requires is-rate-requires double-if-requires returns)

@@ -1,5 +1,6 @@
--- The two tests are those of the range, on the float of the word at its place.
+-- The field is the float of the word at its place, held to the range.
 use mathlib.Core.Path.{sym}
+use Rattle.records.proofs.Laws.{so}
 use borrow.Author.Needs.{needs}
 use Rattle.records.proofs.fields.setting_at.Statement.{statement}
 use Rattle.records.proofs.fields.setting_at.Tie as tie
@@ -13,22 +14,22 @@ cast-f32-from-bits c = search needs
 f32-from-bits-requires : tie.Need-f32-from-bits-requires
 f32-from-bits-requires c κs = search needs
 
+is-setting-requires : tie.Need-is-setting-requires
+is-setting-requires c κs = search needs
+
 returns : tie.Need-returns
 returns c =
     let at1 = c .before in
     let at2 = at1 .before in
     let at3 = at2 .before in
-    simp (sym (at3 .word-at .ensures .0), sym (at2 .f32-from-bits .ensures), at1 .if1 .taken, c .if2 .taken)
+    simp (sym (at3 .word-at .ensures .0), sym (at2 .f32-from-bits .ensures), so (at1 .is-setting .ensures) (c .if1 .taken))
 
 returns-2 : tie.Need-returns-2
 returns-2 c =
     let at1 = c .before in
     let at2 = at1 .before in
     let at3 = at2 .before in
-    simp (sym (at3 .word-at .ensures .0), sym (at2 .f32-from-bits .ensures), at1 .if1 .taken, c .if2 .left)
-
-returns-3 : tie.Need-returns-3
-returns-3 c = simp (sym (c .before .before .word-at .ensures .0), sym (c .before .f32-from-bits .ensures), c .if1 .left)
+    simp (sym (at3 .word-at .ensures .0), sym (at2 .f32-from-bits .ensures), so (at1 .is-setting .ensures) (c .if1 .left))
 
 pub setting-at-spec : {M : Type 1} → statement M
 setting-at-spec =
@@ -37,6 +38,6 @@ setting-at-spec =
     word-at-requires
     cast-f32-from-bits
     f32-from-bits-requires
+    is-setting-requires
     returns
-    returns-2
-    returns-3)
+    returns-2)

@@ -1,6 +1,7 @@
 -- The kind decides.
 use mathlib.Core.Path.{subst}
 use Prim.Native.Nat.{_≤_}
+use Rattle.records.specs.Limits.{maxNested}
 use Rattle.records.specs.declared.hit_object.HitObjectKind.{HitObjectKind}
 use Rattle.simulator.specs.Limits.{nestedCount}
 use borrow.Author.Needs.{needs}
@@ -17,7 +18,7 @@ enum-known-kind : tie.Need-enum-known-kind
 enum-known-kind c = search needs
 
 slider-requires : tie.Need-slider-requires
-slider-requires c κs = subst (λ (k : HitObjectKind). nestedCount k ≤ 1000) (c .before .kind .given .1) (c .before .before .before .pre)
+slider-requires c κs = subst (λ (k : HitObjectKind). nestedCount k ≤ maxNested) (c .before .kind .given .1) (c .before .before .before .pre)
 
 enum-known-kind-2 : tie.Need-enum-known-kind-2
 enum-known-kind-2 c = search needs

@@ -2,6 +2,7 @@
 use mathlib.Core.Path.{subst}
 use Prim.Native.Nat.{_≤_}
 use native.Mathlib.Omega.{arith}
+use Rattle.records.specs.Limits.{maxNested}
 use Rattle.records.specs.declared.hit_object.HitObjectKind.{HitObjectKind}
 use Rattle.simulator.specs.Limits.{nestedCount}
 use Rattle.simulator.specs.Nested.{counted}
@@ -30,14 +31,14 @@ add-t15 : tie.Need-add-t15
 add-t15 c =
     let at1 = c .before .before .before .before in
     let at2 = at1 .before .before .before in
-    let room = subst (λ (k : HitObjectKind). nestedCount k ≤ 1000) (at1 .kind .given .1) (at2 .pre .1) in
+    let room = subst (λ (k : HitObjectKind). nestedCount k ≤ maxNested) (at1 .kind .given .1) (at2 .pre .1) in
     omega (arith, at2 .pre .0 .repeats)
 
 add-t16 : tie.Need-add-t16
 add-t16 c =
     let at1 = c .before .before .before .before .before .before in
     let at2 = at1 .before .before .before in
-    let room = subst (λ (k : HitObjectKind). nestedCount k ≤ 1000) (at1 .kind .given .1) (at2 .pre .1) in
+    let room = subst (λ (k : HitObjectKind). nestedCount k ≤ maxNested) (at1 .kind .given .1) (at2 .pre .1) in
     omega (arith, at2 .pre .0 .ticks)
 
 enum-known-kind-2 : tie.Need-enum-known-kind-2

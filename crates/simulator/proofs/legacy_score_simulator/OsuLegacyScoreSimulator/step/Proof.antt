@@ -1,6 +1,7 @@
 -- Each arm is the step of its kind.
 use mathlib.Core.Path.{sym, ap, subst, _∙_}
 use Prim.Native.Nat.{_≤_}
+use Rattle.records.specs.Limits.{maxNested}
 use Rattle.records.specs.declared.hit_object.HitObjectKind.{HitObjectKind}
 use Rattle.simulator.specs.Limits.{nestedCount}
 use Rattle.simulator.specs.View.{kindOf}
@@ -23,7 +24,7 @@ slider-requires : tie.Need-slider-requires
 slider-requires c κs =
     let at1 = c .before in
     let at2 = at1 .before .before in
-    (at2 .pre .0, subst (λ (k : HitObjectKind). nestedCount k ≤ 1000) (at1 .kind .given .1) (at2 .pre .1))
+    (at2 .pre .0, subst (λ (k : HitObjectKind). nestedCount k ≤ maxNested) (at1 .kind .given .1) (at2 .pre .1))
 
 enum-known-kind-2 : tie.Need-enum-known-kind-2
 enum-known-kind-2 c = search needs

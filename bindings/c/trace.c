@@ -1,6 +1,6 @@
-/* trace files|calls: answers a stream of map files, or of lists of calls on a board, through the header. The streams and the Rust's answers to them
- * stand in ../../crates/trace and ../../crates/trace_calls; oracle/src/calls.rs has the format of a call. So every function and every field meets
- * values that this engine did not make. */
+/* trace files|calls: answers a stream of map files, or of lists of calls on a board, through the header, as `oracle trace` and `oracle trace-calls`
+ * answer it from the Rust; oracle/src/calls.rs has the format of a call. `test` holds it to stored streams in ../../vectors, `.ci/compare` to fresh
+ * ones. So every function and every field meets values that this engine did not make. */
 #include "popejoanplum.h"
 #include <inttypes.h>
 #include <stdio.h>
@@ -22,8 +22,10 @@ static size_t frame_length;
 
 static int read_frame(void) {
     uint32_t length;
-    if (fread(&length, 1, 4, stdin) != 4)
+    size_t got = fread(&length, 1, 4, stdin);
+    if (got == 0 && feof(stdin))
         return 0;
+    hold(got == 4, "a length is whole");
     hold(length <= sizeof frame, "a frame has room");
     frame_length = fread(frame, 1, length, stdin);
     hold(frame_length == length, "a frame is whole");
@@ -32,6 +34,7 @@ static int read_frame(void) {
 
 /* Takes the next bytes. */
 static void take(const uint8_t **at, void *to, size_t length) {
+    hold(length <= (size_t)(frame + frame_length - *at), "a call has all its fields");
     memcpy(to, *at, length);
     *at += length;
 }
@@ -242,6 +245,7 @@ static void print_board(void) {
 static void trace_call(void) {
     uint8_t kind = frame[0];
     unsigned index = calls++;
+    hold(frame_length > 0 && kind <= 4, "a frame has a call");
     if (kind == 0)
         build(frame + 1);
     else if (kind == 1)
@@ -260,5 +264,6 @@ int main(int argc, char **argv) {
             trace_file();
         else
             trace_call();
+    hold(!fflush(stdout) && !ferror(stdout), "the answers are written");
     return 0;
 }

@@ -40,7 +40,6 @@ pub fn run(arguments: &[String]) -> Result<(), String> {
         ["replay-rows", table, seed, count, path] => {
             replay::write(table, number(seed)?, number(count)?, path)
         }
-        ["pack", table, packed, kinds @ ..] => table::pack(table, packed, kinds),
         ["check-refusals", table] => table::check(table),
         ["example"] => write_out(&worked_example()),
         ["bench"] => bench::bench(),

@@ -2,26 +2,6 @@
 //!
 //! The table's head documents its text. The expected numbers are copied from the table and never
 //! worked out here: the assembler knows the layout of a record, but no refusal.
-//!
-//! `pack` writes the rows one after another for a replay in another language. All numbers are
-//! little-endian:
-//!
-//! ```text
-//! u8   kind: 0 program, 1 file, 2 build, 3 edit, 4 read
-//! u8   expected number, 0 if the call is good
-//! u32  expected offset, 0 if the call is good
-//! u32  file length, then the file's bytes (for an edit or a read: the map to build first)
-//! build   u32 words, u32 starts                                          (lent sizes)
-//! edit    u32 words, u32 starts, tampers, u32 count, u32 place,
-//!         u32 record length, the record's bytes
-//! read    u32 words, u32 starts, tampers, u32 count, 3 x u32 bits of hp, od, cs,
-//!         u32 how many break numbers, each u64 bits, 42 bytes of play (a PL record's body)
-//! tampers u32 how many, each: u8 (0 board, 1 start table), u32 index, u64 value bits
-//! ```
-//!
-//! For an edit and a read the replay builds the map in just the memory it needs, lends `words`
-//! words and `starts` numbers (what was built, cut there or followed by zeros), writes the tampers
-//! in their order, and makes the call.
 
 use std::collections::{HashMap, HashSet};
 
@@ -135,85 +115,12 @@ pub fn parse_table(text: &str) -> Result<Vec<Row>, String> {
     Ok(rows)
 }
 
-/// Writes the rows in the packed form above.
-pub fn pack(rows: &[Row]) -> Vec<u8> {
-    let mut out = Vec::new();
-    for row in rows {
-        out.push(match row.kind {
-            Kind::Program => 0,
-            Kind::File => 1,
-            Kind::Build { .. } => 2,
-            Kind::Edit { .. } => 3,
-            Kind::Read { .. } => 4,
-        });
-        out.push(row.number);
-        put_u32(&mut out, row.offset);
-        put_bytes(&mut out, &row.file);
-        pack_arguments(&mut out, &row.kind);
-    }
-    out
-}
-
-fn pack_arguments(out: &mut Vec<u8>, kind: &Kind) {
-    match kind {
-        Kind::Program | Kind::File => {}
-        Kind::Build { words, starts } => {
-            put_u32(out, *words);
-            put_u32(out, *starts);
-        }
-        Kind::Edit {
-            memory,
-            count,
-            place,
-            record,
-        } => {
-            put_memory(out, memory);
-            put_u32(out, *count);
-            put_u32(out, *place);
-            put_bytes(out, record);
-        }
-        Kind::Read {
-            memory,
-            count,
-            settings,
-            breaks,
-            play,
-        } => {
-            put_memory(out, memory);
-            put_u32(out, *count);
-            settings.iter().for_each(|bits| put_u32(out, *bits));
-            put_u32(out, breaks.len() as u32);
-            breaks.iter().for_each(|bits| put_u64(out, *bits));
-            out.extend_from_slice(play);
-        }
-    }
-}
-
 fn put_u32(out: &mut Vec<u8>, value: u32) {
     out.extend_from_slice(&value.to_le_bytes());
 }
 
 fn put_u64(out: &mut Vec<u8>, value: u64) {
     out.extend_from_slice(&value.to_le_bytes());
-}
-
-fn put_bytes(out: &mut Vec<u8>, bytes: &[u8]) {
-    put_u32(out, bytes.len() as u32);
-    out.extend_from_slice(bytes);
-}
-
-fn put_memory(out: &mut Vec<u8>, memory: &Memory) {
-    put_u32(out, memory.words);
-    put_u32(out, memory.starts);
-    put_u32(out, memory.tampers.len() as u32);
-    for tamper in &memory.tampers {
-        out.push(match tamper.lent {
-            Lent::Board => 0,
-            Lent::Start => 1,
-        });
-        put_u32(out, tamper.index);
-        put_u64(out, tamper.bits);
-    }
 }
 
 // ---------------------------------------------------------------- rows
@@ -1042,46 +949,6 @@ mod tests {
             play,
         };
         assert_eq!(only_row(table).kind, expected);
-    }
-
-    #[test]
-    fn packed_rows() {
-        let table =
-            "a | program | hex:4d | 2 at 0\nb | build | hex:4d4800 ; words=26 starts=258 | 3 at 2";
-        let expected = [
-            0, 2, 0, 0, 0, 0, 1, 0, 0, 0, 0x4d, //
-            2, 3, 2, 0, 0, 0, 3, 0, 0, 0, 0x4d, 0x48, 0, 26, 0, 0, 0, 2, 1, 0, 0,
-        ];
-        assert_eq!(pack(&parse_table(table).unwrap()), expected);
-    }
-
-    #[test]
-    fn packed_edit() {
-        let table = "a | edit | MH:5:5:5 CI:0 ; board[1.q]=9 count=3 place=2 record=(hex:43) \
-            | 13 at 0";
-        let mut expected = vec![3, 13, 0, 0, 0, 0, 24, 0, 0, 0];
-        expected.extend([
-            b'M', b'H', 0, 0, 0xa0, 0x40, 0, 0, 0xa0, 0x40, 0, 0, 0xa0, 0x40,
-        ]);
-        expected.extend([b'C', b'I', 0, 0, 0, 0, 0, 0, 0, 0]);
-        expected.extend([26, 0, 0, 0, 1, 0, 0, 0]);
-        expected.extend([1, 0, 0, 0, 0, 13, 0, 0, 0, 9, 0, 0, 0, 0, 0, 0, 0]);
-        expected.extend([3, 0, 0, 0, 2, 0, 0, 0, 1, 0, 0, 0, 0x43]);
-        assert_eq!(pack(&parse_table(table).unwrap()), expected);
-    }
-
-    #[test]
-    fn packed_read() {
-        let table = "a | read | MH:0:0:12 ; starts=1 start[0]=1 breaks=2 play=(PL:flags=511) | ok";
-        let mut expected = vec![4, 0, 0, 0, 0, 0, 14, 0, 0, 0];
-        expected.extend([b'M', b'H', 0, 0, 0, 0, 0, 0, 0, 0, 0, 0, 0x40, 0x41]);
-        expected.extend([26, 0, 0, 0, 1, 0, 0, 0]);
-        expected.extend([1, 0, 0, 0, 1, 0, 0, 0, 0, 0, 0, 0, 0, 0, 0, 0xf0, 0x3f]);
-        expected.extend([0, 0, 0, 0, 0, 0, 0, 0, 0, 0, 0, 0, 0, 0, 0x40, 0x41]);
-        expected.extend([1, 0, 0, 0, 0, 0, 0, 0, 0, 0, 0, 0x40]);
-        expected.extend([0; 32]);
-        expected.extend([0xff, 1, 0, 0, 0, 0, 0, 0, 0xf0, 0x3f]);
-        assert_eq!(pack(&parse_table(table).unwrap()), expected);
     }
 
     /// Each table is refused, and the reason says the given words.

@@ -10,6 +10,12 @@ use popejoanplum::{
     sys::{self, Attributes, Estimates, Play, PlayAnswer, Settings, Status},
 };
 
+/// Numbers that no call writes, and how many of them are lent behind a row's memory.
+const WORD_MARK: u64 = 0xabad_1dea_abad_1dea;
+const START_MARK: f64 = -1_234_567.5;
+const MORE: usize = 8;
+
+#[derive(Clone)]
 struct Memories {
     words: Vec<u64>,
     starts: Vec<f64>,
@@ -30,18 +36,66 @@ impl Memories {
         }
     }
 
-    fn bits(&self) -> (Vec<u64>, Vec<u64>) {
-        let starts = self.starts.iter().map(|start| start.to_bits()).collect();
-        (self.words.clone(), starts)
+    fn edit(&mut self, count: usize, place: usize, record: &[u8]) -> Status {
+        // SAFETY: as above.
+        unsafe {
+            sys::pjp_edit(
+                self.words.as_mut_ptr(),
+                self.words.len(),
+                self.starts.as_mut_ptr(),
+                self.starts.len(),
+                count,
+                place,
+                record.as_ptr(),
+                record.len(),
+            )
+        }
+    }
+
+    fn read(&self, count: usize, settings: Settings, breaks: &[f64], play: Play) -> PlayAnswer {
+        // SAFETY: as above.
+        unsafe {
+            sys::pjp_read(
+                self.words.as_ptr(),
+                self.words.len(),
+                self.starts.as_ptr(),
+                self.starts.len(),
+                count,
+                settings,
+                breaks.as_ptr(),
+                breaks.len(),
+                play,
+            )
+        }
+    }
+
+    fn marked(words: usize, starts: usize) -> Self {
+        Self {
+            words: vec![WORD_MARK; words],
+            starts: vec![START_MARK; starts],
+        }
+    }
+
+    /// The same with marks behind it.
+    fn with_more(&self) -> Self {
+        let mut more = self.clone();
+        more.words.extend([WORD_MARK; MORE]);
+        more.starts.extend([START_MARK; MORE]);
+        more
+    }
+
+    /// What lies behind the board and the starts of that many objects; all where there is no board.
+    fn behind(&self, objects: Option<usize>) -> (&[u64], Vec<u64>) {
+        let words = objects.map_or(0, |count| sys::pjp_board_words(count));
+        let starts = &self.starts[objects.unwrap_or(0)..];
+        let bits = starts.iter().map(|start| start.to_bits()).collect();
+        (&self.words[words..], bits)
     }
 
     /// What the map needs, built; then cut or followed by zeros, and the tampers.
     fn lent(file: &[u8], memory: &Memory) -> Self {
         let objects = popejoanplum::read_map(file).unwrap().objects;
-        let mut lent = Self {
-            words: vec![0; sys::pjp_board_words(objects)],
-            starts: vec![0.0; objects],
-        };
+        let mut lent = Self::marked(sys::pjp_board_words(objects), objects);
         assert_eq!(lent.build(file).status, 0);
         lent.words.resize(memory.words as usize, 0);
         lent.starts.resize(memory.starts as usize, 0.0);
@@ -86,76 +140,67 @@ fn number_of<T>(answer: Result<T, Error>) -> (u8, usize) {
 }
 
 fn call(row: &Row) -> (u8, usize) {
-    let file = &row.file;
-    match &row.kind {
-        Kind::Program => number_of(listing(file)),
-        Kind::File => number_of(score_map(file)),
-        Kind::Build { words, starts } => {
-            let mut lent = Memories {
-                words: vec![7; *words as usize],
-                starts: vec![-0.5; *starts as usize],
-            };
-            let before = lent.bits();
-            let Status { status, offset } = lent.build(file);
-            assert!(status == 0 || lent.bits() == before, "{}", row.name);
-            (status, offset)
-        }
+    let lent = match &row.kind {
+        Kind::Program => return number_of(listing(&row.file)),
+        Kind::File => return number_of(score_map(&row.file)),
+        Kind::Build { words, starts } => Memories::marked(*words as usize, *starts as usize),
+        Kind::Edit { memory, .. } | Kind::Read { memory, .. } => Memories::lent(&row.file, memory),
+    };
+    let answer = call_lent(row, lent.clone());
+    // Where too little is lent, more would make another row.
+    if row.number != 11 {
+        let with_more = call_lent(row, lent.with_more());
+        assert_eq!(with_more, answer, "{}, lent more", row.name);
+    }
+    answer
+}
+
+/// Makes the row's call, and holds all that it may not write to what was lent: of a good build or edit
+/// what lies behind the board, of any other call everything.
+fn call_lent(row: &Row, mut lent: Memories) -> (u8, usize) {
+    let before = lent.clone();
+    let (status, offset) = answer(row, &mut lent);
+    let written = if status == 0 { board_of(row) } else { None };
+    let is_kept = lent.behind(written) == before.behind(written);
+    assert!(is_kept, "{} changed lent memory", row.name);
+    (status, offset)
+}
+
+/// How many objects the board has that a good call of the row writes.
+fn board_of(row: &Row) -> Option<usize> {
+    match row.kind {
+        Kind::Build { .. } => Some(popejoanplum::read_map(&row.file).unwrap().objects),
+        Kind::Edit { count, .. } => Some(count as usize),
+        Kind::Read { .. } | Kind::Program | Kind::File => None,
+    }
+}
+
+fn answer(row: &Row, lent: &mut Memories) -> (u8, usize) {
+    let Status { status, offset } = match &row.kind {
+        Kind::Program | Kind::File => unreachable!("a call without a board"),
+        Kind::Build { .. } => lent.build(&row.file),
         Kind::Edit {
-            memory,
             count,
             place,
             record,
-        } => {
-            let mut lent = Memories::lent(file, memory);
-            let before = lent.bits();
-            // SAFETY: as above.
-            let Status { status, offset } = unsafe {
-                sys::pjp_edit(
-                    lent.words.as_mut_ptr(),
-                    lent.words.len(),
-                    lent.starts.as_mut_ptr(),
-                    lent.starts.len(),
-                    *count as usize,
-                    *place as usize,
-                    record.as_ptr(),
-                    record.len(),
-                )
-            };
-            assert!(status == 0 || lent.bits() == before, "{}", row.name);
-            (status, offset)
-        }
+            ..
+        } => lent.edit(*count as usize, *place as usize, record),
         Kind::Read {
-            memory,
             count,
-            settings: [hp, od, cs],
+            settings,
             breaks,
             play,
+            ..
         } => {
-            let lent = Memories::lent(file, memory);
+            let [hp, od, cs] = settings.map(f32::from_bits);
             let breaks: Vec<f64> = breaks.iter().map(|&bits| f64::from_bits(bits)).collect();
-            let settings = Settings {
-                hp: f32::from_bits(*hp),
-                od: f32::from_bits(*od),
-                cs: f32::from_bits(*cs),
-            };
-            // SAFETY: as above.
-            let answer = unsafe {
-                sys::pjp_read(
-                    lent.words.as_ptr(),
-                    lent.words.len(),
-                    lent.starts.as_ptr(),
-                    lent.starts.len(),
-                    *count as usize,
-                    settings,
-                    breaks.as_ptr(),
-                    breaks.len(),
-                    play_of(play),
-                )
-            };
+            let settings = Settings { hp, od, cs };
+            let answer = lent.read(*count as usize, settings, &breaks, play_of(play));
             assert!(answer.status == 0 || is_zero(&answer), "{}", row.name);
-            (answer.status, answer.offset)
+            return (answer.status, answer.offset);
         }
-    }
+    };
+    (status, offset)
 }
 
 /// Whether the values are those of a refusal.

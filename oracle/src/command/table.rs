@@ -11,31 +11,6 @@ pub fn rows(path: &str) -> Result<Vec<Row>, String> {
     recipe::parse_table(&text).map_err(|why| format!("{path}: {why}"))
 }
 
-/// Writes the table of refusals in its packed form; of the kinds named, or of all.
-pub fn pack(table: &str, packed: &str, kinds: &[&str]) -> Result<(), String> {
-    if let Some(kind) = kinds.iter().find(|kind| !KINDS.contains(kind)) {
-        return Err(format!(
-            "no kind {kind:?}; the kinds are {}",
-            KINDS.join(", ")
-        ));
-    }
-    let mut rows = rows(table)?;
-    rows.retain(|row| kinds.is_empty() || kinds.contains(&name(&row.kind)));
-    fs::write(packed, recipe::pack(&rows)).map_err(|why| format!("{packed}: {why}"))
-}
-
-const KINDS: [&str; 5] = ["program", "file", "build", "edit", "read"];
-
-fn name(kind: &Kind) -> &'static str {
-    match kind {
-        Kind::Program => "program",
-        Kind::File => "file",
-        Kind::Build { .. } => "build",
-        Kind::Edit { .. } => "edit",
-        Kind::Read { .. } => "read",
-    }
-}
-
 /// Compares the reader with each row that needs no board's content.
 pub fn check(table: &str) -> Result<(), String> {
     let rows = rows(table)?;

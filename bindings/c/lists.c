@@ -1,0 +1,449 @@
+/* lists SEED: long lists of calls on a board, as document 01's section on them has it. Beside the board the program keeps the map as records. After
+ * each call all lent memory is held to a fresh build of the map's file, and each read to the score of its play on that file: no other answers are
+ * needed, so that lists may be long and maps large. The first difference ends the run. */
+#include "popejoanplum.h"
+#include <inttypes.h>
+#include <math.h>
+#include <stdio.h>
+#include <stdlib.h>
+#include <string.h>
+
+enum { MAX_NESTED = 1000, MAX_RECORD = 12 + MAX_NESTED, MAX_TIMES = 2 * PJP_MAX_BREAKS, MORE = 8 };
+
+/* How a list is drawn: the objects of its map; the calls behind its build; the times of its breaks, two for each; the most nested items of a slider;
+ * how many of 100 objects that an edit puts are spinners, where the map starts with half as many; the seconds of the longest spinner. */
+typedef struct {
+    unsigned objects, turns, times, nested, spinners, seconds;
+} style;
+
+/* The bonus of the maps of 200, 700 and 5,000 objects is soon so near its limit that edits get 7, and the combo of 300 objects gives reads 10. */
+static const style STYLES[] = {
+    {0, 400, 4, 0, 0, 0},           {1, 800, 0, 1000, 60, 3600},    {2, 800, 2, 1000, 60, 3600},  {3, 800, 256, 1000, 40, 3600},
+    {5, 1600, 6, 1000, 40, 3600},   {64, 2400, 10, 1000, 30, 3600}, {65, 4000, 0, 40, 30, 3600},  {200, 4000, 2, 10, 98, 3600},
+    {300, 1600, 40, 1000, 10, 100}, {700, 1600, 4, 10, 80, 1540},   {2000, 1600, 0, 100, 30, 10}, {5000, 1600, 100, 30, 30, 675},
+    {8192, 1600, 2, 10, 30, 100},
+};
+enum { LISTS = sizeof STYLES / sizeof *STYLES };
+
+/* An object is its record; a fault may make it a byte longer than any good one. */
+typedef struct {
+    size_t length;
+    uint8_t bytes[MAX_RECORD + 1];
+} object;
+
+typedef struct {
+    uint64_t words[26 * PJP_MAX_OBJECTS + MORE];
+    double starts[PJP_MAX_OBJECTS + MORE];
+} memory;
+
+/* ---- the list that runs, its map and its board; how often each number was answered */
+static uint64_t seed;
+static unsigned list, turn;
+static style now;
+static size_t words; /* that its board needs */
+static pjp_settings settings;
+static double times[MAX_TIMES + 3]; /* the last but one begins a break too many, the last is out of range */
+static object objects[PJP_MAX_OBJECTS];
+static memory board, fresh;
+static unsigned edits[256], reads[256], other_reads[256];
+
+static void hold(int is_so, const char *claim, size_t number) {
+    if (is_so)
+        return;
+    fprintf(stderr, "lists %" PRIu64 ": list %u of %u objects, turn %u, not so: %s %zu\n", seed, list, now.objects, turn, claim, number);
+    exit(1);
+}
+
+/* ---- numbers without a pattern: Marsaglia's xorshift64 */
+static uint64_t state;
+
+static uint64_t any(void) {
+    state ^= state << 13;
+    state ^= state >> 7;
+    return state ^= state << 17;
+}
+
+/* 0 where the limit is 0. */
+static uint32_t below(uint32_t limit) {
+    return limit ? (uint32_t)((any() >> 16) % limit) : 0;
+}
+
+static uint32_t up_to(uint32_t most) {
+    return below(most + 1);
+}
+
+/* ---- the map: few times are at the limits or the negative zero, half of the others are whole and any, the rest within some minutes */
+static double draw_time(void) {
+    static const double EDGES[] = {8000000.0, -8000000.0, -0.0};
+    unsigned sort = below(32);
+    if (sort < 3)
+        return EDGES[sort];
+    return sort < 18 ? below(16000001) - 8000000.0 : below(4000001) / 8.0;
+}
+
+/* As a time and as a duration. */
+static double draw_bad_double(void) {
+    static const double BAD[] = {NAN, INFINITY, -8000000.5, 8000000.5};
+    return BAD[below(4)];
+}
+
+/* Eighths up to 12. */
+static pjp_settings draw_settings(void) {
+    pjp_settings s;
+    s.hp = (float)below(97) / 8;
+    s.od = (float)below(97) / 8;
+    s.cs = (float)below(97) / 8;
+    return s;
+}
+
+static void put_double(object *o, size_t at, double value) {
+    memcpy(o->bytes + at, &value, 8);
+}
+
+static void start_record(object *o, const char *mark, size_t length) {
+    memcpy(o->bytes, mark, 2);
+    put_double(o, 2, draw_time());
+    o->length = length;
+}
+
+static void draw_slider(object *o, uint16_t count) {
+    unsigned i;
+    start_record(o, "SL", 12u + count);
+    memcpy(o->bytes + 10, &count, 2);
+    for (i = 0; i < count; i++)
+        o->bytes[12 + i] = i + 1 < count ? (uint8_t)below(2) : 2;
+}
+
+static void draw_spinner(object *o, double duration) {
+    start_record(o, "SP", 18);
+    put_double(o, 10, duration);
+}
+
+static void draw_object(object *o, unsigned spinners) {
+    if (below(100) < spinners)
+        draw_spinner(o, up_to(1 << 20) / 1048576.0 * (now.seconds * 1000.0));
+    else if (below(2))
+        draw_slider(o, (uint16_t)(1 + below(now.nested)));
+    else
+        start_record(o, "CI", 10);
+}
+
+static void draw_map(void) {
+    unsigned i;
+    settings = draw_settings();
+    for (i = 0; i < MAX_TIMES + 2; i++)
+        times[i] = draw_time();
+    times[i] = 8000000.5;
+    for (i = 0; i < now.objects; i++)
+        draw_object(objects + i, now.spinners / 2);
+}
+
+/* The file of the map's objects with these settings and the first times as breaks. */
+static uint8_t file[14 + 18 * PJP_MAX_BREAKS + PJP_MAX_OBJECTS * MAX_RECORD];
+
+static size_t put_file(pjp_settings s, size_t count) {
+    uint8_t *at = file + 14;
+    size_t i;
+    memcpy(file, "MH", 2);
+    memcpy(file + 2, &s, sizeof s);
+    for (i = 0; i < count; i += 2, at += 18) {
+        memcpy(at, "BR", 2);
+        memcpy(at + 2, times + i, 16);
+    }
+    for (i = 0; i < now.objects; at += objects[i++].length)
+        memcpy(at, objects[i].bytes, objects[i].length);
+    return (size_t)(at - file);
+}
+
+static size_t put_map(void) {
+    return put_file(settings, now.times);
+}
+
+/* ---- memory: what the map needs, and marks behind it that no call may write */
+static void fill(memory *m, size_t more, uint64_t word, double start) {
+    size_t i;
+    for (i = 0; i < words + more; i++)
+        m->words[i] = word;
+    for (i = 0; i < now.objects + more; i++)
+        m->starts[i] = start;
+}
+
+static void mark(memory *m) {
+    fill(m, MORE, UINT64_C(0xabad1deaabad1dea), -1234567.5);
+}
+
+/* By their bits, as all of them have 8 bytes. */
+static void hold_same(const void *ours, const void *due, size_t count, const char *claim) {
+    const uint8_t *a = (const uint8_t *)ours, *b = (const uint8_t *)due;
+    size_t i;
+    if (memcmp(a, b, 8 * count))
+        for (i = 0; i < count; i++)
+            hold(!memcmp(a + 8 * i, b + 8 * i, 8), claim, i);
+}
+
+/* The fresh board is built in just the memory that it needs, over other numbers than the list's was: a word that a build leaves out shows. */
+static void hold_board(void) {
+    pjp_status built;
+    mark(&fresh);
+    fill(&fresh, 0, UINT64_MAX, 0.25);
+    built = pjp_build(file, put_map(), fresh.words, words, fresh.starts, now.objects);
+    hold(built.status == PJP_GOOD, "the map is built anew, refused", built.status);
+    hold_same(board.words, fresh.words, words + MORE, "the board is that of a fresh build, word");
+    hold_same(board.starts, fresh.starts, now.objects + MORE, "the start table is that of a fresh build, start");
+}
+
+/* ---- edits. The faults: too many objects are named, too few words are lent, the place is the one behind the last or far behind it; of the record
+ * there is nothing, its mark is no object's, a byte is behind it, one byte is there, the last is missing, its time, duration or nested list is wrong,
+ * it has 1,001 nested items. */
+enum { NO_FAULT, MANY, SHORT, AT_END, FAR, EMPTY, MARK, TRAILING, ONE_BYTE, CUT, TIME, DURATION, NESTED, LONG, FAULTS };
+
+static const uint8_t NUMBERS[] = {PJP_GOOD, PJP_COUNT, PJP_ROOM, PJP_PLACE, PJP_PLACE, PJP_MARK,   PJP_MARK,
+                                  PJP_MARK, PJP_CUT,   PJP_CUT,  PJP_RANGE, PJP_RANGE, PJP_NESTED, PJP_COUNT};
+
+/* A list that is empty, ends in another item than the tail, or has a tail or no item at all before it. */
+static void draw_wrong_list(object *o) {
+    unsigned sort = below(3);
+    draw_slider(o, sort ? 7 : 0);
+    if (sort == 1)
+        o->bytes[18] = (uint8_t)below(2);
+    if (sort == 2)
+        o->bytes[13] = (uint8_t)(2 + below(3));
+}
+
+static void spoil(object *o, unsigned fault) {
+    static const char *const MARKS[] = {"MH", "BR", "PL", "ci"};
+    switch (fault) {
+    case EMPTY: o->length = 0; break;
+    case MARK: memcpy(o->bytes, MARKS[below(4)], 2); break;
+    case TRAILING: o->bytes[o->length++] = (uint8_t)any(); break;
+    case ONE_BYTE: o->length = 1; break;
+    case CUT: o->length--; break;
+    case TIME: put_double(o, 2, draw_bad_double()); break;
+    case DURATION: draw_spinner(o, draw_bad_double()); break;
+    case NESTED: draw_wrong_list(o); break;
+    case LONG: draw_slider(o, MAX_NESTED + 1); break;
+    }
+}
+
+static size_t draw_place(unsigned fault) {
+    if (fault == AT_END)
+        return now.objects;
+    return fault == FAR ? now.objects + below(100000) : below(now.objects);
+}
+
+/* What the file gets with another object at the place: a good one is refused only for the bonus. */
+static uint8_t number_with(size_t place, const object *other) {
+    static object before;
+    uint8_t number;
+    before = objects[place];
+    objects[place] = *other;
+    number = pjp_read_map(file, put_map()).status;
+    objects[place] = before;
+    hold(number == PJP_GOOD || number == PJP_BONUS, "a good object is refused only for the bonus, not by", number);
+    return number;
+}
+
+/* Document 01's number, in the order of its checks. */
+static uint8_t due_of(unsigned fault, size_t place, const object *o) {
+    if (fault == MANY || fault == SHORT)
+        return NUMBERS[fault];
+    if (place >= now.objects)
+        return PJP_PLACE;
+    return fault ? NUMBERS[fault] : number_with(place, o);
+}
+
+static void edit_turn(unsigned fault) {
+    static object o;
+    size_t count = fault == MANY ? PJP_MAX_OBJECTS + 1 : now.objects, place = draw_place(fault);
+    uint8_t due;
+    pjp_status done;
+    draw_object(&o, now.spinners);
+    spoil(&o, fault);
+    due = due_of(fault, place, &o);
+    done = pjp_edit(board.words, fault == SHORT ? words - 1 : words + MORE, board.starts, now.objects + MORE, count, place, o.bytes, o.length);
+    hold(done.status == due && done.offset == 0, "an edit gets", due);
+    if (done.status == PJP_GOOD)
+        objects[place] = o;
+    edits[due]++;
+}
+
+/* ---- plays: of any passed objects, none or more than there are; with judgements for all of them at times, and one too many at others; most combos
+ * are the objects' at least, some are any */
+static void draw_passed(pjp_play *p) {
+    unsigned sort = below(8);
+    p->passed_objects = (uint16_t)(sort == 0 ? 0 : sort < 3 ? 65535 : up_to(now.objects + 2));
+}
+
+static void draw_combo(pjp_play *p, uint32_t passed) {
+    unsigned sort = below(16);
+    p->max_combo = sort == 0 ? (uint32_t)any() : up_to(sort < 4 ? 4 * passed : passed);
+}
+
+static void draw_judgements(pjp_play *p, uint32_t passed) {
+    p->n300 = (uint16_t)up_to(passed);
+    passed -= p->n300;
+    p->n100 = (uint16_t)up_to(passed);
+    passed -= p->n100;
+    p->n50 = (uint16_t)up_to(passed);
+    passed -= p->n50;
+    p->misses = (uint16_t)up_to(passed + below(8) / 7);
+}
+
+static void draw_hits(pjp_play *p, uint32_t passed) {
+    p->large_tick_hits = up_to(passed);
+    p->small_tick_hits = (uint32_t)any();
+    p->slider_end_hits = up_to(passed / 4);
+    p->origin = (uint8_t)below(3);
+}
+
+static void draw_score(pjp_play *p) {
+    unsigned sort = below(4);
+    p->has_score = sort > 0;
+    p->score = sort == 0 ? 0 : sort == 1 ? (uint32_t)any() : below(10000000);
+}
+
+/* A few are out of range. */
+static void draw_mods(pjp_play *p) {
+    unsigned sort = below(32);
+    p->flags = (uint16_t)(below(32) ? below(512) : any());
+    p->clock_rate = sort == 0 ? NAN : sort < 16 ? 1.0 : below(100200) / 1000.0;
+}
+
+static pjp_play draw_play(void) {
+    pjp_play p;
+    uint32_t passed;
+    draw_passed(&p);
+    passed = p.passed_objects < now.objects ? p.passed_objects : now.objects;
+    draw_combo(&p, passed);
+    draw_judgements(&p, passed);
+    draw_hits(&p, passed);
+    draw_score(&p);
+    draw_mods(&p);
+    return p;
+}
+
+/* ---- reads. Floats are compared by their bits, but two nested scores that are not a number are the same; no other value may be none. */
+static int is_same(pjp_play_answer a, pjp_play_answer b) {
+    double x = a.attributes.nested_score_per_object, y = b.attributes.nested_score_per_object;
+    if (x != x && y != y)
+        a.attributes.nested_score_per_object = y;
+    return a.status == b.status && a.offset == b.offset && !memcmp(&a.attributes, &b.attributes, sizeof a.attributes) &&
+           !memcmp(&a.estimates, &b.estimates, offsetof(pjp_estimates, has_score_based)) &&
+           a.estimates.has_score_based == b.estimates.has_score_based;
+}
+
+static pjp_play_answer read_board(size_t lent, size_t count, pjp_settings s, const double *breaks, size_t length, pjp_play p) {
+    return pjp_read(board.words, lent, board.starts, now.objects + MORE, count, s, breaks, length, p);
+}
+
+/* A read with these settings and the first times as breaks gets what the play gets beside the file with them. */
+static uint8_t hold_read(pjp_settings s, size_t count) {
+    pjp_play p = draw_play();
+    pjp_play_answer due = pjp_score_play(file, put_file(s, count), p);
+    hold(is_same(read_board(words + MORE, now.objects, s, times, count, p), due), "a read gets what the play gets on the map's file, number",
+         due.status);
+    return due.status;
+}
+
+static pjp_settings draw_bad_settings(void) {
+    static const float BAD[] = {NAN, 12.125f, -0.125f};
+    pjp_settings s = draw_settings();
+    float *const FIELDS[] = {&s.hp, &s.od, &s.cs};
+    *FIELDS[below(3)] = BAD[below(3)];
+    return s;
+}
+
+/* With other settings, other breaks, fewer objects (document 01 says only that nothing changes), too many of them, too many breaks, too few words, a
+ * setting out of range, a break without its end, a time out of range. */
+static uint8_t read_other(unsigned sort) {
+    size_t all = words + MORE, count = now.objects, own = now.times;
+    pjp_play p = draw_play();
+    switch (sort) {
+    case 0: return hold_read(draw_settings(), own);
+    case 1: return hold_read(settings, 2 * up_to(PJP_MAX_BREAKS));
+    case 2: return read_board(all, below(now.objects), settings, times, own, p).status;
+    case 3: return read_board(all, PJP_MAX_OBJECTS + 1, settings, times, own, p).status;
+    case 4: return read_board(all, count, settings, times, MAX_TIMES + 1 + below(2), p).status;
+    case 5: return read_board(words - 1, count, settings, times, own, p).status;
+    case 6: return read_board(all, count, draw_bad_settings(), times, own, p).status;
+    case 7: return read_board(all, count, settings, times, 2 * below(PJP_MAX_BREAKS) + 1, p).status;
+    default: return read_board(all, count, settings, times + MAX_TIMES + 1, 2, p).status;
+    }
+}
+
+static void other_turn(unsigned sort) {
+    static const uint8_t DUE[] = {0, 0, 0, PJP_COUNT, PJP_COUNT, PJP_ROOM, PJP_RANGE, PJP_RANGE, PJP_RANGE};
+    uint8_t found = read_other(sort);
+    hold(sort < 3 || found == DUE[sort], "a read of another map gets", DUE[sort]);
+    other_reads[found]++;
+}
+
+/* ---- lists: of 8 turns 4 are edits that may be good */
+static void take_turn(void) {
+    unsigned round = turn / 8;
+    switch (turn % 8) {
+    case 2:
+    case 6: reads[hold_read(settings, now.times)]++; break;
+    case 4: edit_turn(1 + round % (FAULTS - 1)); break;
+    case 7: other_turn(round % 9); break;
+    default: edit_turn(NO_FAULT);
+    }
+    hold_board();
+}
+
+/* A map whose bonus is above the limit is drawn anew. */
+static void build(void) {
+    unsigned tries = 0;
+    pjp_status built;
+    do {
+        draw_map();
+        mark(&board);
+        built = pjp_build(file, put_map(), board.words, words + MORE, board.starts, now.objects + MORE);
+    } while (built.status == PJP_BONUS && ++tries < 100);
+    hold(built.status == PJP_GOOD, "the map is built, refused", built.status);
+    hold_board();
+}
+
+/* Each list has its own numbers, whatever those before it drew; xorshift needs a state that is not 0, and some turns until near seeds differ. */
+static void run_list(void) {
+    unsigned i;
+    now = STYLES[list];
+    words = pjp_board_words(now.objects);
+    state = (seed * LISTS + list + 1) * UINT64_C(0x9e3779b97f4a7c15);
+    state += !state;
+    for (i = 0; i < 16; i++)
+        any();
+    turn = 0;
+    for (build(); turn < now.turns; turn++)
+        take_turn();
+}
+
+/* Every number that is expected was met: no part of the lists falls silent. */
+static void print_counts(const char *calls, const unsigned *counts, const uint8_t *expected) {
+    unsigned i;
+    for (; *expected; expected++)
+        hold(counts[*expected] > 0, "some calls are refused by", *expected);
+    printf("  %s: %u good", calls, counts[PJP_GOOD]);
+    for (i = 1; i < 256; i++)
+        if (counts[i])
+            printf(", refused %u: %u", i, counts[i]);
+    printf("\n");
+}
+
+int main(int argc, char **argv) {
+    static const uint8_t OF_EDITS[] = {PJP_CUT, PJP_MARK, PJP_RANGE, PJP_NESTED, PJP_COUNT, PJP_BONUS, PJP_ROOM, PJP_PLACE, 0};
+    static const uint8_t OF_READS[] = {PJP_PLAY_FIELD, PJP_PLAY_EXCEEDS, PJP_PLAY_COMBO, 0}, OF_OTHERS[] = {PJP_RANGE, PJP_COUNT, PJP_ROOM, 0};
+    char *end = NULL;
+    seed = argc == 2 ? strtoull(argv[1], &end, 10) : 0;
+    if (!end || end == argv[1] || *end) {
+        fprintf(stderr, "lists SEED, a whole number\n");
+        return 2;
+    }
+    for (list = 0; list < LISTS; list++)
+        run_list();
+    printf("lists %" PRIu64 ": %u lists of calls are as fresh builds and scores have it\n", seed, (unsigned)LISTS);
+    print_counts("edits", edits, OF_EDITS);
+    print_counts("reads", reads, OF_READS);
+    print_counts("reads of another map", other_reads, OF_OTHERS);
+    return 0;
+}

@@ -76,10 +76,8 @@ pub fn edit(
         Room::Refused(number) => Written::Refused { number, offset: 0 },
         Room::Is(size) => {
             if count <= place {
-                return Written::Refused {
-                    number: refusal::PLACE,
-                    offset: 0,
-                };
+                let number = refusal::PLACE;
+                return Written::Refused { number, offset: 0 };
             }
             match read_alone(bytes) {
                 Alone::Refused(number) => Written::Refused { number, offset: 0 },

@@ -1,4 +1,4 @@
--- Document 01, "The board": the 13 words of an entry, from the objects that it covers alone; the words of two neighbouring runs of objects; limits.
+-- Document 01, "The board": the words of an entry, from the objects that it covers alone; the words of two neighbouring runs of objects; limits.
 use Prim.Native.Nat.{ℕ, _+_, _*_, _≤_, _<_}
 use mathlib.Core.Bool.{Bool, true, false, cond, _&&_}
 use mathlib.Core.List.{List, [], _∷_}

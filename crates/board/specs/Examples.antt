@@ -1,5 +1,5 @@
--- Document 01, "What a caller gets" and "The board", computed: an edit's record, and edits and reads on any lent memory: which of two faults is told, what
--- is read, and each limit of an entry at its edge.
+-- Document 01, "What a caller gets" and "The board", computed: an edit's record, and edits and reads on lent memory that no build made: which of two
+-- faults is told, what is read, and each limit of an entry at its edge.
 use Prim.Native.Nat.{ℕ, _+_, _-_, _*_}
 use mathlib.Core.Path.{_≡_, refl}
 use mathlib.Core.List.{List, [], _∷_, _++_, map}
@@ -85,8 +85,8 @@ record-numbers : map (λ (r : List ℕ × ℕ). number (objectIn (r .0))) record
 unfolding records objectIn objectOf circleOf sliderOf spinnerOf nestedOf wordAt bytesOf _>>=_ _>>_ refuse_when_ ofBits le lt eq neg
 record-numbers = refl
 
--- ---- lent memory, by document 01's words: "q objects, k combo gain, s, f, accuracy, legacy bonus, standardised bonus, circles, sliders, spinners, repeats,
--- ticks, spinner nested score"
+-- ---- lent memory, by document 01's words: "q objects, k combo gain, s, f, accuracy, legacy bonus, standardised bonus, circles, sliders, spinners,
+-- repeats, ticks, spinner nested score"
 abbrev none : List ℕ
 none = replicate 13 0
 
@@ -168,8 +168,8 @@ edit-numbers : map (λ (r : Edit). number (editOf (r .0) (r .1) (r .2) (r .3) (r
 unfolding edits editOf roomFor levelsOf levelsFrom objectIn objectOf circleOf sliderOf spinnerOf nestedOf putAt climbed aboveOf limited inLimits joined entryAt entryOf total repeats ticks legacyOf standardisedOf spinnerScoreOf turned totalHalfSpins requiredHalfSpins wordAt bytesOf _>>=_ _>>_ refuse_when_ ofBits ofInt round toUnsigned mul div le lt eq neg
 edit-numbers = refl
 
--- ---- reads: "then their arguments (.. a read its settings and breaks, starts and ends in turn, an odd count 4, then 8), then 13 and 7 entry by entry as read,
--- and a read at last 9 and 10"
+-- ---- reads: "then their arguments (.. a read its settings and breaks, starts and ends in turn, an odd count 4, then 8), then 13 and 7 entry by
+-- entry as read, and a read at last 9 and 10"
 abbrev Read : Type 0
 Read = List ℕ × List Float × ℕ × Settings × List Float × Play × ℕ
 
@@ -262,8 +262,8 @@ reads =
     ∷ (four none none none, starts 1 ++ badStart ++ starts 1, 3, fine, [], play 3 0, 0)
     -- with no object none is read
     ∷ (one none, [], 0, fine, [], play 0 0, 0)
-    -- "reads the largest entries that together cover just the first p places": of 4 places entry 4; entry 2; entries 2 and 6, also for more than 3 passed
-    -- of 3; entry 1
+    -- "reads the largest entries that together cover just the first p places": of 4 places entry 4 alone; entry 2 alone; entries 2 and 6, also
+    -- where 4 of 3 are passed; entry 1
     ∷ (four (objects 8193 0) none (objects 8193 0), starts 4, 4, fine, [], play 1 0, 0)
     ∷ (four (objects 8193 0) none none, starts 4, 4, fine, [], play 2 0, 13)
     ∷ (four none (objects 8193 0) (objects 8193 0), starts 4, 4, fine, [], play 2 0, 0)

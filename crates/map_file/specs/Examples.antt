@@ -1,6 +1,6 @@
--- Document 01, "What a caller gets", computed: the smallest file of each number, which of two faults of a record is told, and each limit at its edge.
--- Limits and numbers stand as document 01 writes them, not by their names, so that a name for a wrong one is found. (For the smallest file of 7 see
--- `over-bonus` of the crate `encoding`: it has 76 spinners.)
+-- Document 01, "What a caller gets", computed: the smallest file of each number, which of two faults of a record is told, and each limit at its
+-- edge. Limits and numbers stand as document 01 writes them, not by their names, so that a name for a wrong one is found. (For the smallest file
+-- of 7 see `over-bonus` of the crate `encoding`: it has 76 spinners.)
 use Prim.Native.Nat.{ℕ, _-_}
 use mathlib.Core.Path.{_≡_, refl}
 use mathlib.Core.List.{List, [], _∷_, _++_, map}
@@ -100,8 +100,8 @@ number (good f) = 0
 abbrev Row : Type 0
 Row = List ℕ × Counts × ℕ
 
--- "The checks of one record run: mark cut (2), mark (3), record count (6), fixed part cut (2), fixed fields in layout order (4 or 8, a nested count 6),
--- nested list cut (2), nested list (5), bonus so far (7)": two faults, and the number of the first
+-- "The checks of one record run: mark cut (2), mark (3), record count (6), fixed part cut (2), fixed fields in layout order (4 or 8, a nested
+-- count 6), nested list cut (2), nested list (5), bonus so far (7)": two faults, and the number of the first
 orders : List Row
 orders =
     -- 2 before 3: one byte is left, and no mark starts with it
@@ -171,6 +171,7 @@ marks =
     ∷ (spinner 0 0, behind playRank, 3)
     ∷ (play 0 0 0 0 one, behind playRank, 0)
     -- unknown: zeros, and the mark of a break with its bytes swapped
+    ∷ (replicate 18 0, behind noRank, 3)
     ∷ (replicate 18 0, behind headerRank, 3)
     ∷ (0x52 ∷ 0x42 ∷ replicate 16 0, behind headerRank, 3)
     ∷ []

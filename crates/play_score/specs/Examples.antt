@@ -1,4 +1,5 @@
--- Document 01, "What a caller gets" and "A play exceeds its map if ..", computed: 8, 9 and 10 of a play at the edge of each rule, and which is told of two.
+-- Document 01, "What a caller gets" and "A play exceeds its map if ..", computed: 8, 9 and 10 of a play at the edge of each rule, and which of two
+-- faults is told.
 use Prim.Native.Nat.{ℕ}
 use mathlib.Core.Path.{_≡_, refl}
 use mathlib.Core.List.{List, [], _∷_, map}

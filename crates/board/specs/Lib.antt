@@ -1,3 +1,4 @@
+mod Examples
 pub mod Place
 pub mod Edit
 pub mod Search

@@ -8,12 +8,12 @@ use borrow.Author.Tests.{lt-ltb, le-ltb, eq-eqb, ne-eqb}
 use lib.Dec.{ltb}
 use lib.ListN.{length}
 use Rattle.numbers.specs.Words.{wordAt}
-use Rattle.records.specs.Refusals.{Checked, good, refused, _>>=_, _>>_, refuse_when_}
+use Rattle.rules.specs.Refusals.{Checked, good, refused, _>>=_, _>>_, refuse_when_}
 use Rattle.records.specs.Objects.{Object, objectView}
 use Rattle.records.specs.Records.{Content, header, break, object, play, Found, objectOf, readOf, contentView}
 use Rattle.records.specs.declared.record.Record.{Record}
 use Rattle.records.specs.declared.record.Read.the-variants as read
-use Rattle.records.proofs.Laws.{never}
+use Rattle.rules.proofs.Laws.{never}
 use Rattle.board.specs.Edit.{objectOnly, objectIn, aloneOf, onlyOf}
 use Rattle.board.specs.declared.edit.Alone.{Alone}
 

@@ -2,8 +2,8 @@
 use Prim.Native.Nat.{ℕ}
 use mathlib.Core.Path.{_≡_, refl, ap, _∙_}
 use mathlib.Core.Bool.{Bool, true, false}
-use Rattle.records.specs.Refusals.{Checked, good, refused, _>>=_, _>>_, refuse_when_}
-use Rattle.records.proofs.Laws.{never}
+use Rattle.rules.specs.Refusals.{Checked, good, refused, _>>=_, _>>_, refuse_when_}
+use Rattle.rules.proofs.Laws.{never}
 
 pub record Bound {A B : Type 0} (x : Checked A) (f : A → Checked B) (b : B) : Type 0 where
   pub value : A

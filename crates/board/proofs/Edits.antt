@@ -8,14 +8,14 @@ use borrow.Author.Tests.{lt-leb, le-leb}
 use lib.Dec.{leb, ltb}
 use lib.Ieee.{Float}
 use lib.ListN.{length}
-use Rattle.records.specs.Limits.{maxBonus}
+use Rattle.rules.specs.Limits.{maxBonus}
 use Rattle.numbers.specs.Words.{wordAt}
-use Rattle.records.specs.Refusals.{Checked, good, refused, _>>=_, _>>_, refuse_when_}
+use Rattle.rules.specs.Refusals.{Checked, good, refused, _>>=_, _>>_, refuse_when_}
 use Rattle.records.specs.Objects.{Object, Kind, kindView, objectView, bonus, kindBonus}
 use Rattle.records.specs.Records.{Content, header, break, object, play, Found, objectOf}
 use Rattle.records.specs.declared.hit_object.HitObject.{HitObject}
-use Rattle.records.proofs.Laws.{never}
-use Rattle.records.proofs.All.{All, none, that, all-out}
+use Rattle.rules.proofs.Laws.{never}
+use Rattle.rules.proofs.All.{All, none, that, all-out}
 use Rattle.encoding.specs.Limits.{ObjectWithin, Each, one}
 use Rattle.encoding.specs.Limits as limits
 use Rattle.encoding.proofs.Accepted.{object-within}

@@ -4,8 +4,8 @@ use mathlib.Core.Path.{_≡_, refl, sym, ap, ap₂, _∙_}
 use mathlib.Core.List.{List}
 use lib.Ieee.{Float}
 use lib.ListN.{set}
-use Rattle.records.specs.Refusals.{Checked, good, refused, _>>=_}
-use Rattle.records.proofs.Laws.{never}
+use Rattle.rules.specs.Refusals.{Checked, good, refused, _>>=_}
+use Rattle.rules.proofs.Laws.{never}
 use Rattle.entries.specs.declared.entry.Entry.{Entry}
 use Rattle.tree.specs.Put.{climbed, putOf, orElse}
 use Rattle.tree.specs.declared.Size.{Size}

@@ -7,11 +7,11 @@ use borrow.Author.Tests.{lt-ltb, le-ltb}
 use lib.Dec.{eqb}
 use lib.Ieee.{Float, binary32, ofBits, le}
 use lib.ListN.{length}
-use Rattle.records.specs.Limits.{maxBreaks}
-use Rattle.records.specs.Refusals.{Checked, good, refused, _>>=_, _>>_, refuse_when_}
+use Rattle.rules.specs.Limits.{maxBreaks}
+use Rattle.rules.specs.Refusals.{Checked, good, refused, _>>=_, _>>_, refuse_when_}
 use Rattle.records.specs.declared.beatmap.Settings.{Settings}
-use Rattle.records.specs.declared.play.Play.{Play}
-use Rattle.records.proofs.Laws.{never}
+use Rattle.play_state.specs.declared.Play.{Play}
+use Rattle.rules.proofs.Laws.{never}
 use Rattle.entries.proofs.Sound.{neither}
 use Rattle.ruleset.specs.Stars.{SettingIn, SettingsIn}
 use Rattle.simulator.specs.Attributes.{scoreAttributesOf}

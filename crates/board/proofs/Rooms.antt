@@ -7,10 +7,10 @@ use borrow.Author.Tests.{lt-ltb, le-ltb, ltb-false}
 use lib.Dec.{ltb}
 use lib.Ieee.{Float}
 use lib.ListN.{length}
-use Rattle.records.specs.Limits.{maxObjects}
+use Rattle.rules.specs.Limits.{maxObjects}
 use Rattle.entries.specs.Entry.{placeWords}
-use Rattle.records.specs.Refusals.{Checked, good, refused, _>>_, refuse_when_}
-use Rattle.records.proofs.Laws.{never}
+use Rattle.rules.specs.Refusals.{Checked, good, refused, _>>_, refuse_when_}
+use Rattle.rules.proofs.Laws.{never}
 use Rattle.tree.specs.Size.{levelsOf, capOf}
 use Rattle.tree.specs.declared.Size.{Size}
 use Rattle.board.specs.Place.{roomFor, roomOf, Holds}

@@ -6,8 +6,8 @@ use mathlib.Core.List.{List}
 use lib.Dec.{leb, eqb}
 use lib.Ieee.{Float, nan}
 use lib.ListN.{getD}
-use Rattle.records.specs.Refusals.{Checked, good, refused, _>>=_, _>>_, refuse_when_, pick}
-use Rattle.records.proofs.Laws.{never}
+use Rattle.rules.specs.Refusals.{Checked, good, refused, _>>=_, _>>_, refuse_when_, pick}
+use Rattle.rules.proofs.Laws.{never}
 use Rattle.numbers.specs.Floats.{whole}
 use Rattle.entries.specs.Entry.{none, joined, inLimits}
 use Rattle.entries.specs.Scores.{unsound}

@@ -5,9 +5,9 @@ use mathlib.Core.List.{List, [], _∷_}
 use lib.Dec.{eqb, leb, ltb}
 use lib.Ieee.{Float}
 use lib.ListN.{length}
-use Rattle.records.specs.Limits.{markSize}
+use Rattle.rules.specs.Limits.{markSize}
 use Rattle.numbers.specs.Words.{wordAt}
-use Rattle.records.specs.Refusals.{Checked, good, refused, _>>=_, _>>_, refuse_when_, CUT, MARK, PLACE}
+use Rattle.rules.specs.Refusals.{Checked, good, refused, _>>=_, _>>_, refuse_when_, CUT, MARK, PLACE}
 use Rattle.records.specs.Fields.{cut}
 use Rattle.records.specs.Objects.{Object, objectView}
 use Rattle.records.specs.Records.{Content, header, break, object, play, objectOf}

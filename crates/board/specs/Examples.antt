@@ -8,14 +8,14 @@ use lib.Ieee.{Float, binary32, binary64, ofBits, ofInt, round, toUnsigned, mul, 
 use Rattle.numbers.specs.Words.{wordAt, bytesOf}
 use Rattle.spinner.specs.HalfSpins.{totalHalfSpins, requiredHalfSpins}
 use Rattle.spinner.specs.Bonus.{walked as turned, legacyOf, standardisedOf}
-use Rattle.records.specs.Refusals.{Checked, refused, good, _>>=_, _>>_, refuse_when_}
+use Rattle.rules.specs.Refusals.{Checked, refused, good, _>>=_, _>>_, refuse_when_}
 use Rattle.records.specs.Objects.{repeats, ticks}
-use Rattle.records.specs.Play.{flagsBad}
+use Rattle.play_state.specs.Play.{flagsBad}
 use Rattle.records.specs.Records.{circleOf, nestedOf, sliderOf, spinnerOf, objectOf}
 use Rattle.records.specs.declared.beatmap.Settings.{Settings}
-use Rattle.records.specs.declared.play.OsuScoreOrigin.the-variants.{Stable}
-use Rattle.records.specs.declared.play.LegacyTotalScore.the-variants.{Present}
-use Rattle.records.specs.declared.play.Play.{Play}
+use Rattle.play_state.specs.declared.OsuScoreOrigin.the-variants.{Stable}
+use Rattle.play_state.specs.declared.LegacyTotalScore.the-variants.{Present}
+use Rattle.play_state.specs.declared.Play.{Play}
 use Rattle.simulator.specs.Nested.{spinnerScoreOf}
 use Rattle.simulator.specs.Attributes.{difficultyAttributesOf, scoreAttributesOf}
 use Rattle.play_score.specs.PlayRules.{modsBad, hitsExceed, exceeds, isDue, overCombo, playScore}

@@ -8,10 +8,10 @@ use lib.IntN.{ℤ, pos}
 use lib.Ieee.{Float, binary32, ofBits, le}
 use lib.ListN.{length}
 use Rattle.records.specs.Fields.{isSetting}
-use Rattle.records.specs.Limits.{maxBreaks}
-use Rattle.records.specs.Refusals.{Checked, good, refused, _>>=_, _>>_, refuse_when_, pick, RANGE, COUNT, PLAY-FIELD}
+use Rattle.rules.specs.Limits.{maxBreaks}
+use Rattle.rules.specs.Refusals.{Checked, good, refused, _>>=_, _>>_, refuse_when_, pick, RANGE, COUNT, PLAY-FIELD}
 use Rattle.records.specs.declared.beatmap.Settings.{Settings}
-use Rattle.records.specs.declared.play.Play.{Play}
+use Rattle.play_state.specs.declared.Play.{Play}
 use Rattle.ruleset.specs.Drain.{drainOf, breaksLength, breaksOf}
 use Rattle.ruleset.specs.Stars.{multiplierOf}
 use Rattle.simulator.specs.Attributes.{scoreAttributesOf}

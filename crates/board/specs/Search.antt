@@ -7,7 +7,7 @@ use lib.Dec.{eqb}
 use lib.Ieee.{Float, nan, neg, le}
 use lib.ListN.{getD}
 use Rattle.numbers.specs.Floats.{whole}
-use Rattle.records.specs.Refusals.{Checked, good, refused, _>>=_, _>>_, refuse_when_, pick, BOARD}
+use Rattle.rules.specs.Refusals.{Checked, good, refused, _>>=_, _>>_, refuse_when_, pick, BOARD}
 use Rattle.records.specs.Fields.{isTime}
 use Rattle.entries.specs.Entry.{none}
 use Rattle.entries.specs.Scores.{unsound}

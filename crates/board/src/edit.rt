@@ -9,7 +9,7 @@ use records::hit_object::HitObject;
 use records::hit_object::read_object;
 use records::record::Read;
 use records::record::Record;
-use records::refusal;
+use rules::refusal;
 use tree::Put;
 ghost use mathlib.Core.Path.{_≡_};
 ghost use Rattle.board.specs.Place.{writtenOf, writtenLeft};

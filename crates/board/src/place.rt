@@ -1,7 +1,7 @@
 // Room for a map's board and start table, and an entry and a start put at a place of them.
 use entries::entry::Entry;
 use records::hit_object::HitObject;
-use records::refusal;
+use rules::refusal;
 use tree::Put;
 use tree::Size;
 use tree::climb;

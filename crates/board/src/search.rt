@@ -2,7 +2,7 @@
 use entries::entry::Entry;
 use entries::values::is_unsound;
 use records::fields::is_time;
-use records::refusal;
+use rules::refusal;
 use tree::Combined;
 use tree::Size;
 use tree::quick::quick_sum_of_first;

@@ -8,11 +8,11 @@ use lib.Ieee.{Float}
 use lib.ListN.{length, take, drop}
 use lib.Pow.{pow-pos}
 use lib.Seq.{take-all}
-use Rattle.records.specs.Limits.{maxObjects}
+use Rattle.rules.specs.Limits.{maxObjects}
 use Rattle.encoding.specs.Limits.{MapWithin}
 use Rattle.records.specs.Objects.{Object}
 use Rattle.map_file.specs.File.{Map, fileOf}
-use Rattle.records.specs.Refusals.{Checked, good, refused, _>>_}
+use Rattle.rules.specs.Refusals.{Checked, good, refused, _>>_}
 use Rattle.simulator.specs.Attributes.{scoreAttributesOf, scoreAttributesAt}
 use Rattle.simulator.specs.declared.attributes.ScoreAttributes.{ScoreAttributes}
 use Rattle.simulator.specs.declared.legacy_score.NestedScorePerObject.{NestedScorePerObject}

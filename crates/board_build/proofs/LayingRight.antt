@@ -10,7 +10,7 @@ use lib.Ieee.{Float}
 use lib.ListN.{length, drop, set, length-append, length-map, length-drop}
 use borrow.Author.Tests.{eqb-true}
 use Rattle.numbers.specs.Words.{wordAt}
-use Rattle.records.specs.Refusals.{good, refused}
+use Rattle.rules.specs.Refusals.{good, refused}
 use Rattle.records.specs.Objects.{Object, kindView}
 use Rattle.records.specs.Records.{Content, header, break, object, play, Found, contentView, objectOf, readOf}
 use Rattle.map_file.specs.Order.{MH, BR, PL, rankOf, bodyOf}
@@ -18,8 +18,8 @@ use Rattle.map_file.specs.File.{File, Result, accepted, countsOf, with-record, 
 use Rattle.records.specs.declared.record.Record.{Record}
 use Rattle.records.specs.declared.record.Read.{Read}
 use Rattle.records.specs.declared.record.Read.the-variants as read
-use Rattle.records.proofs.All.{all-out}
-use Rattle.records.proofs.Laws.{never}
+use Rattle.rules.proofs.All.{all-out}
+use Rattle.rules.proofs.Laws.{never}
 use Rattle.map_file.proofs.Local.{record-body}
 use Rattle.map_file.proofs.Reading.{Chain, start, longer, foundAt, found-sized, with-at, chain-on, on-fewer, on-stop, on-end, ended-is, length-snoc}
 use Rattle.map_file.proofs.Room.{placeOf, body-placed}

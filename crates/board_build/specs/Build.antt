@@ -5,7 +5,7 @@ use mathlib.Core.List.{List, _++_}
 use lib.Ieee.{Float}
 use lib.ListN.{length, drop}
 use Rattle.entries.specs.Entry.{placeWords}
-use Rattle.records.specs.Refusals.{Checked, good, refused, _>>_}
+use Rattle.rules.specs.Refusals.{Checked, good, refused, _>>_}
 use Rattle.records.specs.Objects.{Object}
 use Rattle.scoring.specs.Scores.{Outcome, refusal, values, Scores}
 use Rattle.tree.specs.Size.{capOf}

@@ -6,8 +6,8 @@ use lib.Dec.{eqb}
 use lib.Ieee.{Float}
 use lib.ListN.{length, drop, set}
 use Rattle.map_file.specs.Order.{headerRank, breakRank}
-use Rattle.records.specs.Limits.{maxNested, headerSize, breakSize, playSize}
-use Rattle.records.specs.Refusals.{pick}
+use Rattle.rules.specs.Limits.{maxNested, headerSize, breakSize, playSize}
+use Rattle.rules.specs.Refusals.{pick}
 use Rattle.records.specs.Objects.{Object}
 use Rattle.map_file.specs.File.{File, Result, accepted, refusedAt}
 use Rattle.records.specs.declared.record.Record.{Record}

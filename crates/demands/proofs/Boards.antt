@@ -13,13 +13,13 @@ use lib.Ieee.{Float, nan}
 use lib.ListN.{length, drop, getD, set, length-append, length-set}
 use lib.Seq.{getD-set-other}
 use Rattle.numbers.specs.Words.{wordAt}
-use Rattle.records.specs.Refusals.{Checked, good, refused, _>>=_, _>>_, refuse_when_}
+use Rattle.rules.specs.Refusals.{Checked, good, refused, _>>=_, _>>_, refuse_when_}
 use Rattle.records.specs.Objects.{Object, Kind, circle, slider, spinner}
 use Rattle.records.specs.Records.{Content, header, break, object, play, objectOf}
 use Rattle.map_file.specs.File.{Map}
 use Rattle.records.specs.declared.beatmap.Settings.{Settings}
-use Rattle.records.specs.declared.play.Play.{Play}
-use Rattle.records.proofs.Laws.{never}
+use Rattle.play_state.specs.declared.Play.{Play}
+use Rattle.rules.proofs.Laws.{never}
 use Rattle.encoding.specs.Encoding.{fieldsOf, circleFields, sliderFields, spinnerFields, nestedBytes, kindBytes, objectBytes}
 use Rattle.encoding.specs.Limits.{Each, none, one, ObjectWithin, MapWithin}
 use Rattle.encoding.proofs.FieldBytes.{fields-length}

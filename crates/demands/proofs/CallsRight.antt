@@ -10,14 +10,14 @@ use borrow.Author.Tests.{eq-eqb, ne-eqb, ltb-false}
 use lib.Dec.{eqb, ltb}
 use lib.Ieee.{Float}
 use lib.ListN.{length, drop, set}
-use Rattle.records.specs.Limits.{maxBonus}
+use Rattle.rules.specs.Limits.{maxBonus}
 use Rattle.entries.specs.Entry.{placeWords}
-use Rattle.records.specs.Refusals.{Checked, good, refused, _>>_}
+use Rattle.rules.specs.Refusals.{Checked, good, refused, _>>_}
 use Rattle.records.specs.Objects.{Object, bonus}
 use Rattle.map_file.specs.File.{Map, File, Result, accepted, refusedAt, fileOf}
 use Rattle.records.specs.declared.beatmap.Settings.{Settings}
-use Rattle.records.specs.declared.play.Play.{Play}
-use Rattle.records.proofs.Laws.{never}
+use Rattle.play_state.specs.declared.Play.{Play}
+use Rattle.rules.proofs.Laws.{never}
 use Rattle.encoding.specs.Encoding.{mapFile, playBytes}
 use Rattle.encoding.specs.Limits.{ObjectWithin, MapWithin, PlaySized}
 use Rattle.simulator.specs.Attributes.{scoreAttributesAt}

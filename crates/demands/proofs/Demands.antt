@@ -6,9 +6,9 @@ use mathlib.Core.List.{List, [], _∷_, _++_, append-nil}
 use Prim.Native.Nat.{ℕ}
 use native.Mathlib.Omega.{arith}
 use lib.ListN.{length}
-use Rattle.records.specs.Refusals.{Checked, good, refused, _>>_, refuse_when_}
+use Rattle.rules.specs.Refusals.{Checked, good, refused, _>>_, refuse_when_}
 use Rattle.map_file.specs.File.{Map, File, Result, accepted, refusedAt, fileOf}
-use Rattle.records.specs.declared.play.Play.{Play}
+use Rattle.play_state.specs.declared.Play.{Play}
 use Rattle.encoding.specs.Limits.{MapWithin, Each, none}
 use Rattle.encoding.specs.Encoding.{mapFile, each}
 use Rattle.encoding.proofs.Accepted.{accepted-within}
@@ -26,7 +26,7 @@ use Rattle.demands.specs.Calls.{Claim}
 use Rattle.scoring.proofs.Rules.{IsRule, refusal-rule}
 use Rattle.listing.proofs.Fits.{listing-told}
 use Rattle.demands.proofs.CallsRight.{calls-right}
-use Rattle.records.proofs.Laws.{never}
+use Rattle.rules.proofs.Laws.{never}
 
 -- ---- Demand 1
 -- "Fed anything, the program finishes", with its listing: the text of every input leaves room in the program's space of 262,144 bytes

@@ -11,8 +11,8 @@ use borrow.Author.Tests.{lt-ltb, le-ltb}
 use lib.Dec.{ltb}
 use lib.Ieee.{Float}
 use lib.ListN.{length, set, length-append, length-map}
-use Rattle.records.specs.Limits.{maxBonus}
-use Rattle.records.specs.Refusals.{Checked, good, refused, _>>=_}
+use Rattle.rules.specs.Limits.{maxBonus}
+use Rattle.rules.specs.Refusals.{Checked, good, refused, _>>=_}
 use Rattle.records.specs.Objects.{Object, bonus}
 use Rattle.map_file.specs.File.{Map}
 use Rattle.encoding.specs.Limits.{ObjectWithin, MapWithin}

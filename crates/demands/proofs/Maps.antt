@@ -8,7 +8,7 @@ use native.Mathlib.Decide.{decLt}
 use borrow.Author.Tests.{ltb-true, ltb-false}
 use lib.Dec.{ltb}
 use lib.ListN.{length, set, length-set}
-use Rattle.records.specs.Limits.{maxObjects, maxBonus}
+use Rattle.rules.specs.Limits.{maxObjects, maxBonus}
 use Rattle.records.specs.Objects.{Object, bonus, kindBonus}
 use Rattle.map_file.specs.File.{Map, accepted, fileOf}
 use Rattle.map_file.proofs.Reading.{length-snoc, bonus-snoc}

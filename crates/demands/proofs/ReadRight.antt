@@ -10,12 +10,12 @@ use borrow.Author.Tests.{ne-eqb}
 use lib.Dec.{eqb, eqb·suc-zero}
 use lib.Ieee.{Float, nan}
 use lib.ListN.{length, take, getD, length-append, length-map}
-use Rattle.records.specs.Refusals.{good, _>>_, refuse_when_}
+use Rattle.rules.specs.Refusals.{good, _>>_, refuse_when_}
 use Rattle.records.specs.Objects.{Object}
 use Rattle.map_file.specs.File.{Map}
 use Rattle.records.specs.declared.beatmap.BreakPeriod.{BreakPeriod}
 use Rattle.records.specs.declared.beatmap.Settings.{Settings}
-use Rattle.records.specs.declared.play.Play.{Play}
+use Rattle.play_state.specs.declared.Play.{Play}
 use Rattle.encoding.specs.Limits.{IsTime, IsSetting, Each, none, one, SettingsWithin, BreakWithin, ObjectWithin, MapWithin}
 use Rattle.ruleset.specs.Drain.{drainOf, breaksLength, breaksOf, startOf, drainAt}
 use Rattle.ruleset.specs.Stars.{multiplierOf, multiplierAt}

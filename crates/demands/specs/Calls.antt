@@ -8,12 +8,12 @@ use lib.Dec.{eqb, ltb}
 use lib.Ieee.{Float}
 use lib.ListN.{length, drop, set}
 use Rattle.entries.specs.Entry.{placeWords}
-use Rattle.records.specs.Refusals.{Checked, good, refused, BONUS, PLACE}
+use Rattle.rules.specs.Refusals.{Checked, good, refused, BONUS, PLACE}
 use Rattle.records.specs.Objects.{Object}
 use Rattle.map_file.specs.File.{Map, File, Result, accepted, refusedAt, fileOf}
 use Rattle.records.specs.declared.beatmap.BreakPeriod.{BreakPeriod}
 use Rattle.records.specs.declared.beatmap.Settings.{Settings}
-use Rattle.records.specs.declared.play.Play.{Play}
+use Rattle.play_state.specs.declared.Play.{Play}
 use Rattle.encoding.specs.Encoding.{mapFile, playBytes}
 use Rattle.encoding.specs.Limits.{PlaySized}
 use Rattle.simulator.specs.Attributes.{scoreAttributesAt}

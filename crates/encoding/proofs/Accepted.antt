@@ -10,9 +10,9 @@ use lib.ListN.{length, take, drop, length-take}
 use lib.Ieee.{Float, Format, binary32, binary64, ofBits, neg, le}
 use lib.Ieee.Bits.{ofBits-fits}
 use Rattle.encoding.proofs.FieldBytes.{doubleWithin}
-use Rattle.records.specs.Limits.{maxNested, maxBreaks, maxObjects, maxBonus}
+use Rattle.rules.specs.Limits.{maxNested, maxBreaks, maxObjects, maxBonus}
 use Rattle.numbers.specs.Words.{wordAt}
-use Rattle.records.specs.Refusals.{Checked, good, refused, _>>=_, pick}
+use Rattle.rules.specs.Refusals.{Checked, good, refused, _>>=_, pick}
 use Rattle.records.specs.Fields.{timed, set, settingOf}
 use Rattle.records.specs.Objects.{Item, circle, slider, spinner, Object, bonus, kindBonus}
 use Rattle.records.specs.Records.{Content, header, break, object, play, Found, CI, SL, SP, headerOf, breakOf, circleOf, nestedOf, sliderOf, spinnerOf, playOf, objectOf, contentView}
@@ -23,8 +23,8 @@ use Rattle.encoding.specs.Limits.{Within, IsTime, IsSetting, IsDuration,
 use Rattle.map_file.specs.declared.file.Counts.{Counts}
 use Rattle.encoding.proofs.RecordsBack.{nested-length}
 use Rattle.encoding.proofs.Written.{timed-all, nested-are}
-use Rattle.records.proofs.All as checked
-use Rattle.records.proofs.All.{All, that, all-bind, all-any, all-when, all-pick, all-map}
+use Rattle.rules.proofs.All as checked
+use Rattle.rules.proofs.All.{All, that, all-bind, all-any, all-when, all-pick, all-map}
 use Rattle.map_file.proofs.Bodies.{bonus-kept}
 use Rattle.map_file.proofs.Room.{record-fits, Begun, record-begun}
 use Rattle.map_file.proofs.Reading.{foundAt, length-snoc, bonus-snoc}

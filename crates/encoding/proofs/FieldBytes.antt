@@ -12,7 +12,7 @@ use Rattle.records.specs.declared.fields.Double.{Double}
 use Rattle.records.specs.Fields.{within, doubleIf}
 use Rattle.numbers.specs.Words.{wordAt, bytesOf}
 use Rattle.numbers.proofs.words.Laws.{wordAt-bytes, wordAt-skip, bytesOf-length}
-use Rattle.records.specs.Refusals.{pick}
+use Rattle.rules.specs.Refusals.{pick}
 use Rattle.encoding.specs.Encoding.{fieldsOf}
 
 -- each number is within its width

@@ -9,25 +9,25 @@ use lib.Dec.{T, eqb, ltb, lit<}
 use lib.ListN.{length, take, drop, length-append}
 use lib.Seq.{take-at, drop-at}
 use lib.Ieee.{Float, Format, binary32, binary64, top, fits, ofBits, toBits, lt, le}
-use Rattle.records.specs.Limits.{maxNested}
+use Rattle.rules.specs.Limits.{maxNested}
 use Rattle.numbers.specs.Words.{wordAt, bytesOf}
 use Rattle.numbers.proofs.bits.Laws.{written-read, written-lt}
-use Rattle.records.specs.Refusals.{Checked, good, refused, _>>=_, _>>_, refuse_when_, pick}
+use Rattle.rules.specs.Refusals.{Checked, good, refused, _>>=_, _>>_, refuse_when_, pick}
 use Rattle.records.specs.Fields.{timeLimit, timeOf, durationOf, settingOf, played}
 use Rattle.records.specs.Objects.{Item, tick, repeat, circle, slider, spinner, Object}
 use Rattle.records.specs.Records.{header, break, object, play, Found, CI, SL, SP, headerOf, breakOf, circleOf, itemOf, nestedOf, sliderOf, spinnerOf, objectOf, playOf}
 use Rattle.encoding.specs.Limits.{Within, IsTime, IsSetting, IsDuration, SettingsWithin, BreakWithin, KindWithin, ObjectWithin, ScoreWithin, PlaySized, PlayWithin}
-use Rattle.records.specs.Play.{originOf, scoreOf, flagsBad, hitresultsOf}
+use Rattle.play_state.specs.Play.{originOf, scoreOf, flagsBad, hitresultsOf}
 use Rattle.encoding.specs.Encoding.{fieldsOf, headerFields, breakFields, circleFields, sliderFields, spinnerFields, playFields, originByte, presentByte, scoreNumber, itemByte, nestedBytes, headerBytes, breakBytes, objectBytes, playBytes}
 use Rattle.records.specs.declared.beatmap.Settings.{Settings}
 use Rattle.records.specs.declared.beatmap.BreakPeriod.{BreakPeriod}
-use Rattle.records.specs.declared.play.OsuScoreOrigin.{OsuScoreOrigin}
-use Rattle.records.specs.declared.play.OsuScoreOrigin.the-variants.{Stable, WithSliderAcc, WithoutSliderAcc}
-use Rattle.records.specs.declared.play.LegacyTotalScore.{LegacyTotalScore}
-use Rattle.records.specs.declared.play.LegacyTotalScore.the-variants.{Absent, Present}
-use Rattle.records.specs.declared.play.Origin.the-variants as origin
-use Rattle.records.specs.declared.play.Score.the-variants as score
-use Rattle.records.specs.declared.play.Play.{Play}
+use Rattle.play_state.specs.declared.OsuScoreOrigin.{OsuScoreOrigin}
+use Rattle.play_state.specs.declared.OsuScoreOrigin.the-variants.{Stable, WithSliderAcc, WithoutSliderAcc}
+use Rattle.play_state.specs.declared.LegacyTotalScore.{LegacyTotalScore}
+use Rattle.play_state.specs.declared.LegacyTotalScore.the-variants.{Absent, Present}
+use Rattle.play_state.specs.declared.Origin.the-variants as origin
+use Rattle.play_state.specs.declared.Score.the-variants as score
+use Rattle.play_state.specs.declared.Play.{Play}
 use Rattle.records.specs.declared.fields.Double.the-variants as double
 use Rattle.records.specs.declared.fields.Single.the-variants as single
 use Rattle.encoding.proofs.FieldBytes.{Fit, fieldAt, begins, widths, fields-length, field-back, doubleWithin}

@@ -10,9 +10,9 @@ use borrow.Author.Tests.{lt-ltb, le-ltb, lt-leb, le-leb, ne-eqb}
 use lib.Dec.{lit<}
 use lib.ListN.{length, drop, length-append, length-drop}
 use lib.Seq.{drop-drop, drop-at}
-use Rattle.records.specs.Limits.{maxBonus, maxBreaks, maxObjects}
+use Rattle.rules.specs.Limits.{maxBonus, maxBreaks, maxObjects}
 use Rattle.numbers.specs.Words.{wordAt}
-use Rattle.records.specs.Refusals.{Checked, good, refused, _>>=_, _>>_, refuse_when_}
+use Rattle.rules.specs.Refusals.{Checked, good, refused, _>>=_, _>>_, refuse_when_}
 use Rattle.records.specs.Objects.{circle, slider, spinner, Kind, Object, bonus, kindBonus}
 use Rattle.records.specs.Records.{Content, header, break, object, play, Found, CI, SL, SP, objectOf, playOf}
 use Rattle.map_file.specs.Order.{MH, BR, PL, rankOf, inOrder, isFull, contentBonus, bodyOf, recordOf}
@@ -21,7 +21,7 @@ use Rattle.encoding.specs.Limits.{Each, none, one, SettingsWithin, Break
 use Rattle.encoding.specs.Encoding.{fieldsOf, headerFields, breakFields, circleFields, sliderFields, spinnerFields, playFields, nestedBytes, kindBytes, headerBytes, breakBytes, objectBytes, playBytes, each, mapFile}
 use Rattle.records.specs.declared.beatmap.Settings.{Settings}
 use Rattle.records.specs.declared.beatmap.BreakPeriod.{BreakPeriod}
-use Rattle.records.specs.declared.play.Play.{Play}
+use Rattle.play_state.specs.declared.Play.{Play}
 use Rattle.map_file.specs.declared.file.Counts.{Counts}
 use Rattle.encoding.proofs.FieldBytes.{fields-length, mark-back}
 use Rattle.encoding.proofs.RecordsBack.{header-back, break-back, circle-back, slider-back, spinner-back, play-back, nested-length}

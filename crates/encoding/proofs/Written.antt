@@ -13,11 +13,11 @@ use lib.Ieee.{Float, nan, inf, fin, binary64, ofBits, toBits, lt, eq, le, isNan}
 use lib.Ieee.Bits.{toBits-ofBits}
 use Rattle.numbers.specs.Words.{wordAt, bytesOf}
 use Rattle.numbers.proofs.words.Laws.{Bytes, wordAt-lt, bytesOf-wordAt}
-use Rattle.records.specs.Refusals.{good}
+use Rattle.rules.specs.Refusals.{good}
 use Rattle.records.specs.Fields.{timed}
 use Rattle.records.specs.Objects.{Object}
 use Rattle.records.specs.Records.{Content, header, break, object, play, CI, SL, SP, circleOf, itemOf, nestedOf, sliderOf, spinnerOf, objectOf}
-use Rattle.records.proofs.All.{All, none, that, all-bind, all-when, all-pick, all-out}
+use Rattle.rules.proofs.All.{All, none, that, all-bind, all-when, all-pick, all-out}
 use Rattle.encoding.specs.Encoding.{fieldsOf, circleFields, sliderFields, spinnerFields, itemByte, nestedBytes, objectBytes}
 use Rattle.encoding.proofs.FieldBytes.{widths, doubleWithin}
 use Rattle.encoding.proofs.RecordsBack.{nested-length}

@@ -10,11 +10,11 @@ use Rattle.map_file.specs.Order.{MH, BR, PL}
 use Rattle.map_file.specs.File.{Map}
 use Rattle.records.specs.declared.beatmap.Settings.{Settings}
 use Rattle.records.specs.declared.beatmap.BreakPeriod.{BreakPeriod}
-use Rattle.records.specs.declared.play.OsuScoreOrigin.{OsuScoreOrigin}
-use Rattle.records.specs.declared.play.OsuScoreOrigin.the-variants.{Stable, WithSliderAcc, WithoutSliderAcc}
-use Rattle.records.specs.declared.play.LegacyTotalScore.{LegacyTotalScore}
-use Rattle.records.specs.declared.play.LegacyTotalScore.the-variants.{Absent, Present}
-use Rattle.records.specs.declared.play.Play.{Play}
+use Rattle.play_state.specs.declared.OsuScoreOrigin.{OsuScoreOrigin}
+use Rattle.play_state.specs.declared.OsuScoreOrigin.the-variants.{Stable, WithSliderAcc, WithoutSliderAcc}
+use Rattle.play_state.specs.declared.LegacyTotalScore.{LegacyTotalScore}
+use Rattle.play_state.specs.declared.LegacyTotalScore.the-variants.{Absent, Present}
+use Rattle.play_state.specs.declared.Play.{Play}
 
 -- a list of fields, each a width in bytes and a number
 unfoldable pub fieldsOf : List (ℕ × ℕ) → List ℕ

@@ -6,18 +6,18 @@ use mathlib.Core.List.{List, [], _∷_}
 use lib.Dec.{T}
 use lib.ListN.{length}
 use lib.Ieee.{Float, Format, binary32, binary64, fits, ofBits, neg, lt, le}
-use Rattle.records.specs.Limits.{maxNested, maxBreaks, maxObjects, maxBonus}
+use Rattle.rules.specs.Limits.{maxNested, maxBreaks, maxObjects, maxBonus}
 use Rattle.records.specs.Fields.{timeLimit, settingLimit, durationLimit, rateLimit}
 use Rattle.records.specs.Objects.{Item, Kind, circle, slider, spinner, Object, bonus}
-use Rattle.records.specs.Play.{flagsBad}
+use Rattle.play_state.specs.Play.{flagsBad}
 use Rattle.map_file.specs.File.{Map}
 use Rattle.records.specs.declared.beatmap.Settings.{Settings}
 use Rattle.records.specs.declared.beatmap.BreakPeriod.{BreakPeriod}
-use Rattle.records.specs.declared.play.OsuHitResults.{OsuHitResults}
-use Rattle.records.specs.declared.play.LegacyTotalScore.{LegacyTotalScore}
-use Rattle.records.specs.declared.play.LegacyTotalScore.the-variants.{Absent, Present}
-use Rattle.records.specs.declared.play.GameMods.{GameMods}
-use Rattle.records.specs.declared.play.Play.{Play}
+use Rattle.play_state.specs.declared.OsuHitResults.{OsuHitResults}
+use Rattle.play_state.specs.declared.LegacyTotalScore.{LegacyTotalScore}
+use Rattle.play_state.specs.declared.LegacyTotalScore.the-variants.{Absent, Present}
+use Rattle.play_state.specs.declared.GameMods.{GameMods}
+use Rattle.play_state.specs.declared.Play.{Play}
 
 -- a float of a format, from low to high
 pub record Within (f : Format) (low high x : Float) : Type 0 where

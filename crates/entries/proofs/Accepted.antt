@@ -9,7 +9,7 @@ use native.Mathlib.Nat.{mul-le-mul, mul-le-mul-left}
 use lib.Dec.{T}
 use lib.Ieee.{Float, ofBits, ofInt}
 use lib.ListN.{length, getD}
-use Rattle.records.specs.Limits.{maxGain, maxObjects, maxBonus, maxCombo, maxCombosBefore}
+use Rattle.rules.specs.Limits.{maxGain, maxObjects, maxBonus, maxCombo, maxCombosBefore}
 use Rattle.numbers.specs.Floats.{whole}
 use Rattle.numbers.proofs.Bounds.{Upto, of-tests}
 use Rattle.spinner.specs.HalfSpins.{totalHalfSpins, requiredHalfSpins}

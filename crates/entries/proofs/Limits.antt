@@ -10,10 +10,10 @@ use native.Mathlib.Decide.{ℕ-discrete}
 use lib.Dec.{leb, ltb, eqb, lit<, lit≤}
 use lib.ListN.{length, getD}
 use borrow.Author.Tests.{leb-true, le-leb}
-use Rattle.records.specs.Limits.{maxLevels, maxCombosBefore, maxCombo, maxObjects}
+use Rattle.rules.specs.Limits.{maxLevels, maxCombosBefore, maxCombo, maxObjects}
 use Rattle.entries.specs.Entry.{none, joined, inLimits, allLe, wordsOf, limitList, SumOf, entryWords}
 use Rattle.entries.specs.declared.entry.Entry.{Entry}
-use Rattle.records.proofs.Laws.{and-left, and-right}
+use Rattle.rules.proofs.Laws.{and-left, and-right}
 
 all-le-start : (t : Bool) (xs ls : List ℕ) → allLe t xs ls ≡ true → t ≡ true
 all-le-start t [] ls h = h

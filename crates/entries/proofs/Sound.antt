@@ -5,12 +5,12 @@ use mathlib.Core.Bool.{Bool, true, false, _||_}
 use native.Mathlib.Omega.{arith}
 use borrow.Author.Tests.{ltb-false, le-ltb}
 use lib.Dec.{ltb}
-use Rattle.records.specs.Limits.{maxObjects}
+use Rattle.rules.specs.Limits.{maxObjects}
 use Rattle.simulator.specs.Limits.{Bounded, Counted}
 use Rattle.entries.specs.Entry.{inLimits}
 use Rattle.entries.specs.Scores.{unsound, stateIn, countsIn}
 use Rattle.entries.specs.declared.entry.Entry.{Entry}
-use Rattle.records.proofs.Laws.{never}
+use Rattle.rules.proofs.Laws.{never}
 use Rattle.entries.proofs.Limits.{word-le}
 
 pub neither : (a b : Bool) → (a || b) ≡ false → (a ≡ false) × (b ≡ false)

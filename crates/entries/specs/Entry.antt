@@ -4,7 +4,7 @@ use mathlib.Core.Bool.{Bool, true, false, cond, _&&_}
 use mathlib.Core.List.{List, [], _∷_}
 use lib.Dec.{leb, ltb}
 use lib.ListN.{length, getD}
-use Rattle.records.specs.Limits.{maxObjects, maxCombo, maxBonus, maxCombosBefore}
+use Rattle.rules.specs.Limits.{maxObjects, maxCombo, maxBonus, maxCombosBefore}
 use Rattle.spinner.specs.Bonus.{legacyOf, standardisedOf}
 use Rattle.records.specs.Objects.{Object, Kind, circle, slider, spinner, repeats, ticks, kindBonus}
 use Rattle.records.specs.declared.hit_object.Slider.{Slider}

@@ -7,7 +7,7 @@ use simulator::legacy_score::calculate_spinner_score;
 ghost use mathlib.Core.Path.{_≡_};
 ghost use mathlib.Core.Bool.{true};
 ghost use Prim.Native.Nat.{_+_, _≤_};
-ghost use Rattle.records.specs.Limits.{maxLevels, maxNested};
+ghost use Rattle.rules.specs.Limits.{maxLevels, maxNested};
 ghost use Rattle.simulator.specs.Limits.{nestedCount};
 ghost use Rattle.entries.specs.Entry.{none, joined, firstOf, inLimits, SumOf, circleEntry, sliderEntry, spinnerEntry, ownEntry};
 

@@ -7,8 +7,8 @@ use lib.Ieee.{Float, le}
 use Rattle.numbers.specs.Floats.{whole}
 use Rattle.numbers.specs.MinMax.{maxOf, minOf}
 use Rattle.numbers.proofs.Order.{max-above, min-below, min-above, whole-number, whole-le}
-use Rattle.records.specs.declared.play.OsuHitResults.{OsuHitResults}
-use Rattle.records.specs.declared.play.Play.{Play}
+use Rattle.play_state.specs.declared.OsuHitResults.{OsuHitResults}
+use Rattle.play_state.specs.declared.Play.{Play}
 use Rattle.miss_calc.specs.Counts.{totalHits}
 use Rattle.estimates.specs.Effective.{heldOf, effectiveOf}
 use Rattle.miss_calc.specs.declared.legacy_score_miss_calc.MissCount.{MissCount}

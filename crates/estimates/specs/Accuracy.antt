@@ -4,9 +4,9 @@ use mathlib.Core.Bool.{Bool, cond}
 use lib.Ieee.{Float, neg, lt, le}
 use Rattle.numbers.specs.Floats.{whole, part, _⊕_, _⊖_, _⊗_, _⊘_}
 use Rattle.miss_calc.specs.Counts.{totalHits}
-use Rattle.records.specs.declared.play.OsuHitResults.{OsuHitResults}
-use Rattle.records.specs.declared.play.OsuScoreOrigin.{OsuScoreOrigin}
-use Rattle.records.specs.declared.play.OsuScoreOrigin.the-variants.{Stable, WithSliderAcc, WithoutSliderAcc}
+use Rattle.play_state.specs.declared.OsuHitResults.{OsuHitResults}
+use Rattle.play_state.specs.declared.OsuScoreOrigin.{OsuScoreOrigin}
+use Rattle.play_state.specs.declared.OsuScoreOrigin.the-variants.{Stable, WithSliderAcc, WithoutSliderAcc}
 use Rattle.simulator.specs.declared.attributes.OsuDifficultyAttributes.{OsuDifficultyAttributes}
 
 unfoldable pub absOf : Float → Float

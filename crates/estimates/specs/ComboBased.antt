@@ -5,9 +5,9 @@ use lib.Dec.{eqb}
 use lib.Ieee.{Float, lt}
 use Rattle.numbers.specs.Floats.{whole, _⊘_}
 use Rattle.numbers.specs.MinMax.{maxOf, minOf}
-use Rattle.records.specs.declared.play.OsuScoreOrigin.{OsuScoreOrigin}
-use Rattle.records.specs.declared.play.OsuScoreOrigin.the-variants.{Stable, WithSliderAcc, WithoutSliderAcc}
-use Rattle.records.specs.declared.play.Play.{Play}
+use Rattle.play_state.specs.declared.OsuScoreOrigin.{OsuScoreOrigin}
+use Rattle.play_state.specs.declared.OsuScoreOrigin.the-variants.{Stable, WithSliderAcc, WithoutSliderAcc}
+use Rattle.play_state.specs.declared.Play.{Play}
 use Rattle.simulator.specs.declared.attributes.OsuDifficultyAttributes.{OsuDifficultyAttributes}
 use Rattle.miss_calc.specs.Counts.{imperfectHits}
 use Rattle.estimates.specs.Accuracy.{largeTicks}

@@ -5,9 +5,9 @@ use lib.Dec.{eqb}
 use lib.Ieee.{Float}
 use Rattle.numbers.specs.Floats.{whole}
 use Rattle.numbers.specs.MinMax.{maxOf, minOf}
-use Rattle.records.specs.Refusals.{pick}
-use Rattle.records.specs.declared.play.OsuHitResults.{OsuHitResults}
-use Rattle.records.specs.declared.play.Play.{Play}
+use Rattle.rules.specs.Refusals.{pick}
+use Rattle.play_state.specs.declared.OsuHitResults.{OsuHitResults}
+use Rattle.play_state.specs.declared.Play.{Play}
 use Rattle.simulator.specs.declared.attributes.OsuDifficultyAttributes.{OsuDifficultyAttributes}
 use Rattle.miss_calc.specs.Counts.{totalHits}
 use Rattle.estimates.specs.Accuracy.{accuracyOf}

@@ -2,8 +2,8 @@
 use miss_calc::counts::total_hits;
 use numbers::naturals::least;
 use numbers::rounding::float;
-use records::play::OsuHitResults;
-use records::play::OsuScoreOrigin;
+use play_state::OsuHitResults;
+use play_state::OsuScoreOrigin;
 use simulator::attributes::OsuDifficultyAttributes;
 ghost use mathlib.Core.Path.{_≡_};
 ghost use Prim.Native.Nat.{_≤_};

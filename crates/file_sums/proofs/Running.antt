@@ -8,9 +8,9 @@ use native.Mathlib.Omega.{arith}
 use borrow.Author.Tests.{eqb-true, ltb-true, leb-true, le-ltb, ne-eqb}
 use lib.Dec.{eqb, ltb, leb}
 use lib.ListN.{length, drop}
-use Rattle.records.specs.Limits.{maxBonus, maxObjects}
+use Rattle.rules.specs.Limits.{maxBonus, maxObjects}
 use Rattle.records.specs.Objects.{objectView, kindView}
-use Rattle.records.specs.Refusals.{good, refused, pick}
+use Rattle.rules.specs.Refusals.{good, refused, pick}
 use Rattle.records.specs.Records.{Found, contentView}
 use Rattle.map_file.specs.Order.{recordOf}
 use Rattle.map_file.specs.View.{countedIn, stepOf, behind as behind·of}

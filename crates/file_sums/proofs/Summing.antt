@@ -6,7 +6,7 @@ use native.Mathlib.Omega.{arith}
 use borrow.Author.Tests.{eq-eqb, ne-eqb}
 use lib.Dec.{eqb, eqb·suc-zero}
 use lib.ListN.{length, take, drop, length-take}
-use Rattle.records.specs.Limits.{maxObjects}
+use Rattle.rules.specs.Limits.{maxObjects}
 use Rattle.numbers.specs.Words.{wordAt}
 use Rattle.records.specs.Objects.{Object, Kind, circle, slider, spinner, kindView, objectView}
 use Rattle.records.specs.Records.{Content, header, break, object, play, contentView, headerOf, breakOf, playOf, objectOf}
@@ -20,7 +20,7 @@ use Rattle.map_file.specs.declared.file.Counts.{Counts}
 use Rattle.map_file.specs.declared.file.Reader.{Reader}
 use Rattle.map_file.specs.declared.file.Step.the-variants as step
 use Rattle.records.specs.declared.record.Record.{Record}
-use Rattle.records.proofs.All.{All, that, all-bind, all-any, all-when, all-pick, all-map, all-out}
+use Rattle.rules.proofs.All.{All, that, all-bind, all-any, all-when, all-pick, all-map, all-out}
 use Rattle.encoding.proofs.Accepted.{object-within, accepted-within}
 use Rattle.map_file.proofs.Reading.{Chain, start, longer, chain-file, Kept, Moved, Seen, seen, all-read, kept-start, kept-step, kept-stop, length-snoc}
 use Rattle.map_file.proofs.Room.{record-fits}

@@ -9,9 +9,9 @@ use borrow.Author.Tests.{lt-ltb, le-ltb, lt-leb, ne-eqb, eqb-true}
 use lib.Dec.{eqb}
 use lib.ListN.{length, drop, length-drop}
 use lib.Ieee.{Float}
-use Rattle.records.specs.Limits.{maxNested, maxBonus, maxObjects}
+use Rattle.rules.specs.Limits.{maxNested, maxBonus, maxObjects}
 use Rattle.numbers.specs.Words.{wordAt}
-use Rattle.records.specs.Refusals.{good, refused, _>>=_, _>>_, refuse_when_}
+use Rattle.rules.specs.Refusals.{good, refused, _>>=_, _>>_, refuse_when_}
 use Rattle.records.specs.Objects.{Object, Kind, circle, slider, spinner, kindView, objectView, kindBonus}
 use Rattle.records.specs.Records.{Content, header, break, object, play, Found, contentView, readOf, CI, SL, SP, objectOf}
 use Rattle.map_file.specs.Order.{rankOf, bodyOf, recordOf}
@@ -25,7 +25,7 @@ use Rattle.records.specs.declared.hit_object.HitObjectKind.the-variants as kind
 use Rattle.records.specs.declared.record.Record.{Record}
 use Rattle.records.specs.declared.record.Record.the-variants as record·case
 use Rattle.records.specs.declared.record.Read.the-variants as read
-use Rattle.records.proofs.All.{All, that, all-out}
+use Rattle.rules.proofs.All.{All, that, all-out}
 use Rattle.map_file.proofs.Sizes.{object-sized}
 use Rattle.map_file.proofs.Steps.{read-size}
 use Rattle.simulator.specs.Hits.{hitsOf}
@@ -45,7 +45,7 @@ use Rattle.simulator.proofs.Objects.{walk-circle, walk-slider, walk-spinner, re
 use Rattle.simulator.proofs.Bonus.{legacy-most, standardised-most, nested-legacy}
 use Rattle.file_sums.proofs.Passed.{sums-same}
 use Rattle.simulator.proofs.Few.{FewIn, object-few}
-use Rattle.records.proofs.Laws.{never}
+use Rattle.rules.proofs.Laws.{never}
 
 kept : (k : Kind) → kindBonusIn (kindView k) ≡ kindBonus k
 kept circle = refl

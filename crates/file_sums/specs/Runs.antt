@@ -6,10 +6,10 @@ use mathlib.Core.List.{List}
 use lib.Dec.{eqb, ltb, leb}
 use lib.Ieee.{Float}
 use lib.ListN.{length, drop}
-use Rattle.records.specs.Limits.{maxObjects, maxBonus, maxGain, maxCombo}
+use Rattle.rules.specs.Limits.{maxObjects, maxBonus, maxGain, maxCombo}
 use Rattle.numbers.specs.Words.{wordAt}
 use Rattle.spinner.specs.Bonus.{legacyOf, standardisedOf}
-use Rattle.records.specs.Refusals.{good, pick}
+use Rattle.rules.specs.Refusals.{good, pick}
 use Rattle.records.specs.Objects.{Object, objectView, kindBonus}
 use Rattle.records.specs.Records.{object, objectOf}
 use Rattle.map_file.specs.Order.{recordOf, objectRank}

@@ -5,8 +5,8 @@ use lib.Dec.{ltb, eqb}
 use lib.IntN.{ℤ, pos}
 use lib.ListN.{length, take}
 use lib.Ieee.{Float}
-use Rattle.records.specs.Limits.{maxObjects, maxNested, maxBreaks}
-use Rattle.records.specs.Refusals.{pick}
+use Rattle.rules.specs.Limits.{maxObjects, maxNested, maxBreaks}
+use Rattle.rules.specs.Refusals.{pick}
 use Rattle.records.specs.Objects.{Object}
 use Rattle.map_file.specs.File.{Result, accepted, refusedAt}
 use Rattle.map_file.specs.declared.file.Reader.{Reader}

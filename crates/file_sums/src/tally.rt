@@ -22,7 +22,7 @@ use spinner::spin;
 ghost use mathlib.Core.Path.{_≡_};
 ghost use Prim.Native.Nat.{_+_, _≤_, _<_, _^_};
 ghost use lib.ListN.{length};
-ghost use Rattle.records.specs.Limits.{maxObjects, maxNested, maxBonus};
+ghost use Rattle.rules.specs.Limits.{maxObjects, maxNested, maxBonus};
 ghost use Rattle.records.specs.Records.{CI, SL, SP};
 ghost use Rattle.simulator.specs.Limits.{Within, Counted};
 ghost use Rattle.file_sums.specs.Runs.{tallyFrom, tallyWith, Small, Spins, Takes, TakesNext, scoreIn, nestedIn, readerIn, sumsIn, Began, mayRun, Steps, Ready};

@@ -8,13 +8,13 @@ use borrow.Author.Tests.{eq-eqb, ne-eqb}
 use lib.Dec.{ltb}
 use lib.Ieee.{Float}
 use lib.ListN.{length}
-use Rattle.records.specs.Refusals.{refused, _>>_, refuse_when_}
-use Rattle.records.specs.Play.{originOf, flagsBad}
+use Rattle.rules.specs.Refusals.{refused, _>>_, refuse_when_}
+use Rattle.play_state.specs.Play.{originOf, flagsBad}
 use Rattle.records.specs.declared.beatmap.Settings.{Settings}
-use Rattle.records.specs.declared.play.Origin.{Origin}
-use Rattle.records.specs.declared.play.Origin.the-variants as origin
-use Rattle.records.specs.declared.play.Score.{Score}
-use Rattle.records.specs.declared.play.Score.the-variants as score
+use Rattle.play_state.specs.declared.Origin.{Origin}
+use Rattle.play_state.specs.declared.Origin.the-variants as origin
+use Rattle.play_state.specs.declared.Score.{Score}
+use Rattle.play_state.specs.declared.Score.the-variants as score
 use Rattle.simulator.specs.declared.attributes.ScoreAttributes.{ScoreAttributes}
 use Rattle.play_score.specs.PlayRules.{modsBad, givenScore}
 use Rattle.board.specs.Place.{roomFor}

@@ -1,16 +1,16 @@
 -- A play as a host gives it. Its origin, its mark of a score and its score are read as those of a play's record are (`originOf` and `scoreOf` of
 -- `records`): an origin above 2, a mark above 1 and a score that is not 0 with a mark of 0 are out of range.
 use Prim.Native.Nat.{ℕ}
-use Rattle.records.specs.Play.{originOf, scoreOf}
-use Rattle.records.specs.declared.play.LegacyTotalScore.{LegacyTotalScore}
-use Rattle.records.specs.declared.play.LegacyTotalScore.the-variants.{Absent}
-use Rattle.records.specs.declared.play.Origin.{Origin}
-use Rattle.records.specs.declared.play.Origin.the-variants as origin
-use Rattle.records.specs.declared.play.OsuScoreOrigin.{OsuScoreOrigin}
-use Rattle.records.specs.declared.play.OsuScoreOrigin.the-variants.{Stable}
-use Rattle.records.specs.declared.play.Play.{Play}
-use Rattle.records.specs.declared.play.Score.{Score}
-use Rattle.records.specs.declared.play.Score.the-variants as score
+use Rattle.play_state.specs.Play.{originOf, scoreOf}
+use Rattle.play_state.specs.declared.LegacyTotalScore.{LegacyTotalScore}
+use Rattle.play_state.specs.declared.LegacyTotalScore.the-variants.{Absent}
+use Rattle.play_state.specs.declared.Origin.{Origin}
+use Rattle.play_state.specs.declared.Origin.the-variants as origin
+use Rattle.play_state.specs.declared.OsuScoreOrigin.{OsuScoreOrigin}
+use Rattle.play_state.specs.declared.OsuScoreOrigin.the-variants.{Stable}
+use Rattle.play_state.specs.declared.Play.{Play}
+use Rattle.play_state.specs.declared.Score.{Score}
+use Rattle.play_state.specs.declared.Score.the-variants as score
 use Rattle.host.specs.declared.play.HostPlay.{HostPlay}
 
 -- the fields as they are, with an origin, a score and flags

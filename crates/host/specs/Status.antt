@@ -3,9 +3,9 @@ use Prim.Native.Nat.{ℕ, _*_}
 use mathlib.Core.List.{List}
 use lib.Dec.{ltb}
 use lib.Ieee.{Float}
-use Rattle.records.specs.Limits.{maxObjects}
+use Rattle.rules.specs.Limits.{maxObjects}
 use Rattle.entries.specs.Entry.{placeWords}
-use Rattle.records.specs.Refusals.{pick}
+use Rattle.rules.specs.Refusals.{pick}
 use Rattle.tree.specs.Size.{capOf}
 use Rattle.board.specs.declared.place.Written.{Written}
 use Rattle.board.specs.declared.place.Written.the-variants as written

@@ -1,13 +1,13 @@
 // A play as a host gives it: numbers where the engine has enums.
-use records::play::GameMods;
-use records::play::LegacyTotalScore;
-use records::play::Origin;
-use records::play::OsuHitResults;
-use records::play::OsuScoreOrigin;
-use records::play::Play;
-use records::play::Score;
-use records::play::origin_of;
-use records::play::score_of;
+use play_state::GameMods;
+use play_state::LegacyTotalScore;
+use play_state::Origin;
+use play_state::OsuHitResults;
+use play_state::OsuScoreOrigin;
+use play_state::Play;
+use play_state::Score;
+use play_state::origin_of;
+use play_state::score_of;
 ghost use mathlib.Core.Path.{_≡_};
 ghost use Rattle.host.specs.Play.{playWith, badPlay, playIn};
 

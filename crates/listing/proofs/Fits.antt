@@ -8,13 +8,13 @@ use native.Mathlib.Omega.{arith}
 use borrow.Author.Tests.{ltb-false, lt-ltb}
 use lib.Dec.{eqb, ltb}
 use lib.ListN.{length, take, length-append, length-drop}
-use Rattle.records.specs.Limits.{maxObjects}
-use Rattle.records.specs.Refusals.{Checked, good, refused, pick}
+use Rattle.rules.specs.Limits.{maxObjects}
+use Rattle.rules.specs.Refusals.{Checked, good, refused, pick}
 use Rattle.records.specs.Objects.{Object}
 use Rattle.records.specs.Records.{Content, header, break, object, play, Found}
 use Rattle.map_file.specs.File.{Map, File, Result, accepted, refusedAt, with-record, follow, ended, fileFrom, fresh, fileOf}
-use Rattle.records.specs.declared.play.Play.{Play}
-use Rattle.records.proofs.Laws.{never}
+use Rattle.play_state.specs.declared.Play.{Play}
+use Rattle.rules.proofs.Laws.{never}
 use Rattle.map_file.proofs.Reading.{foundAt, found-sized, length-snoc}
 use Rattle.map_file.proofs.Sizes.{SizeBy}
 use Rattle.encoding.specs.Limits.{MapWithin, ObjectWithin, Each, none as no-more, one}

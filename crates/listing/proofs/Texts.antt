@@ -15,7 +15,7 @@ use Rattle.simulator.specs.declared.attributes.ScoreAttributes.{ScoreAttributes
 use Rattle.scoring.specs.Scores.{Outcome, refusal, values, Scores, scoresOf, mapScoreOf}
 use Rattle.scoring.specs.declared.score.MapScore.the-variants as map·score
 use Rattle.listing.specs.Listing.{IsGood, playsText, textOf, fileText, listedAt, listedOf}
-use Rattle.records.proofs.Laws.{never}
+use Rattle.rules.proofs.Laws.{never}
 
 refused-text : (x : Outcome Scores) (n at : ℕ) → map·score.Refused n at ≡ mapScoreOf x → refusedLine n at ≡ textOf x
 refused-text (refusal k o) n at e = let a : n ≡ k = cc in let b : at ≡ o = cc in rw (a, b)

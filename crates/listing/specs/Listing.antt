@@ -3,9 +3,9 @@ use Prim.Native.Nat.{ℕ, suc, _+_}
 use mathlib.Core.List.{List, [], _∷_, _++_}
 use lib.Dec.{ltb}
 use lib.ListN.{length}
-use Rattle.records.specs.Limits.{maxInput}
+use Rattle.rules.specs.Limits.{maxInput}
 use Rattle.lines.specs.Lines.{mapLine, playLine, refusedLine}
-use Rattle.records.specs.Refusals.{pick, INPUT}
+use Rattle.rules.specs.Refusals.{pick, INPUT}
 use Rattle.map_file.specs.File.{fileOf}
 use Rattle.simulator.specs.Attributes.{scoreAttributesAt}
 use Rattle.scoring.specs.Scores.{Outcome, refusal, values, Scores, scoresOf}

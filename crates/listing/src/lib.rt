@@ -2,7 +2,7 @@
 use lines::put_map_line;
 use lines::put_play_line;
 use lines::put_refused_line;
-use records::refusal;
+use rules::refusal;
 use scoring::plays::Walk;
 use scoring::plays::Walked;
 use scoring::plays::Wanted;

@@ -3,7 +3,7 @@ use mathlib.Core.Path.{_≡_, refl, sym, ap, _∙_}
 use mathlib.Core.Bool.{Bool, true, false}
 use Prim.Native.Nat.{ℕ}
 use native.Mathlib.Omega.{arith}
-use Rattle.records.specs.Refusals.{Checked, good, refused, _>>=_, _>>_, refuse_when_}
+use Rattle.rules.specs.Refusals.{Checked, good, refused, _>>=_, _>>_, refuse_when_}
 use Rattle.records.specs.Objects.{circle, slider, spinner, Kind, Object, kindView, kindBonus}
 use Rattle.records.specs.Records.{Content, header, break, object, play, Found, contentView, readOf}
 use Rattle.map_file.specs.Order.{overBonus, contentBonus}
@@ -12,7 +12,7 @@ use Rattle.records.specs.declared.record.Record.{Record}
 use Rattle.records.specs.declared.record.Read.{Read}
 use Rattle.records.specs.declared.record.Read.the-variants.{Good, Refused}
 use Rattle.map_file.specs.declared.file.Counts.{Counts}
-use Rattle.records.proofs.Laws.{never}
+use Rattle.rules.proofs.Laws.{never}
 
 pub bonus-kept : (x : Content) → bonusIn (contentView x) ≡ contentBonus x
 bonus-kept (header s) = refl

@@ -10,13 +10,13 @@ use lib.Seq.{take-append-le, drop-append-le}
 use borrow.Author.Tests.{le-ltb, eqb-true, not-false}
 use Rattle.numbers.specs.Words.{wordAt}
 use Rattle.numbers.proofs.words.Laws.{wordAt-within}
-use Rattle.records.specs.Refusals.{Checked, good, refused, _>>=_, _>>_, refuse_when_, pick}
-use Rattle.records.specs.Play.{hitresultsOf}
+use Rattle.rules.specs.Refusals.{Checked, good, refused, _>>=_, _>>_, refuse_when_, pick}
+use Rattle.play_state.specs.Play.{hitresultsOf}
 use Rattle.records.specs.Records.{Content, Found, CI, SL, SP, headerOf, breakOf, circleOf, nestedOf, sliderOf, spinnerOf, playOf, objectOf}
 use Rattle.map_file.specs.Order.{MH, BR, PL, rankOf, inOrder, isFull, overBonus, contentBonus, bodyOf, recordOf}
 use Rattle.map_file.specs.declared.file.Counts.{Counts}
-use Rattle.records.proofs.All.{All, none, that, all-any, all-bind, all-when, all-pick, all-out}
-use Rattle.records.proofs.Laws.{never}
+use Rattle.rules.proofs.All.{All, none, that, all-any, all-bind, all-when, all-pick, all-out}
+use Rattle.rules.proofs.Laws.{never}
 
 module _ (p t : List ℕ) where
   -- the fields of a part that is there

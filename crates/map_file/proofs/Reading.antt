@@ -10,7 +10,7 @@ use lib.Dec.{ltb, eqb}
 use lib.ListN.{length, take, drop, length-append, length-drop, take-append-drop}
 use lib.Seq.{drop-append-le, length-take-le}
 use borrow.Author.Tests.{lt-ltb, le-ltb, eq-eqb, ne-eqb}
-use Rattle.records.specs.Refusals.{Checked, good, refused, pick}
+use Rattle.rules.specs.Refusals.{Checked, good, refused, pick}
 use Rattle.records.specs.Objects.{Object, bonus, kindBonus}
 use Rattle.records.specs.Records.{Content, header, break, object, play, Found, contentView}
 use Rattle.map_file.specs.Order.{recordOf}
@@ -22,12 +22,12 @@ use Rattle.map_file.specs.declared.file.Step.{Step}
 use Rattle.map_file.specs.declared.file.Step.the-variants as step
 use Rattle.map_file.specs.declared.file.Answer.{Answer}
 use Rattle.map_file.specs.declared.file.Answer.the-variants as answer
-use Rattle.records.proofs.All.{All, none, that, all-out}
+use Rattle.rules.proofs.All.{All, none, that, all-out}
 use Rattle.map_file.proofs.Bodies.{bonus-kept}
 use Rattle.map_file.proofs.Local.{record-in}
 use Rattle.map_file.proofs.Room.{placeOf, record-ordered}
 use Rattle.map_file.proofs.Sizes.{Sized, record-sized}
-use Rattle.records.proofs.Laws.{never}
+use Rattle.rules.proofs.Laws.{never}
 
 -- ---- one more element at the end of a list
 pub length-snoc : {A : Type 0} (l : List A) (x : A) → length (l ++ (x ∷ [])) ≡ length l + 1

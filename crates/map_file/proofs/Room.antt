@@ -6,17 +6,17 @@ use Prim.Native.Nat.{ℕ, _+_, _≤_, _<_}
 use native.Mathlib.Omega.{arith}
 use lib.Dec.{eqb, leb, ltb}
 use borrow.Author.Tests.{leb-true, leb-false, ltb-true, ltb-false, eqb-true, not-false}
-use Rattle.records.specs.Limits.{maxBreaks, maxObjects, maxBonus}
+use Rattle.rules.specs.Limits.{maxBreaks, maxObjects, maxBonus}
 use Rattle.numbers.specs.Words.{wordAt}
-use Rattle.records.specs.Refusals.{Checked, good, refused}
+use Rattle.rules.specs.Refusals.{Checked, good, refused}
 use Rattle.records.specs.Objects.{Object}
 use Rattle.records.specs.Records.{Content, header, break, object, play, Found, CI, SL, SP, headerOf, breakOf, circleOf, sliderOf, spinnerOf, playOf, objectOf, contentView}
 use Rattle.map_file.specs.Order.{MH, BR, PL, rankOf, inOrder, isFull, overBonus, contentBonus, bodyOf, recordOf}
 use Rattle.map_file.specs.View.{Fits, bonusIn}
 use Rattle.map_file.specs.declared.file.Counts.{Counts}
-use Rattle.records.proofs.All.{All, none, that, all-bind, all-any, all-when, all-pick}
+use Rattle.rules.proofs.All.{All, none, that, all-bind, all-any, all-when, all-pick}
 use Rattle.map_file.proofs.Bodies.{bonus-kept}
-use Rattle.records.proofs.Laws.{and-left, and-right}
+use Rattle.rules.proofs.Laws.{and-left, and-right}
 
 -- the place of a content in the order
 abbrev pub placeOf : Content → ℕ

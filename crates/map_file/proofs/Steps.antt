@@ -5,7 +5,7 @@ use Prim.Native.Nat.{ℕ, _+_, _-_, _≤_, _<_}
 use native.Mathlib.Omega.{arith}
 use lib.ListN.{length, take, drop, length-drop}
 use lib.Seq.{take-all}
-use Rattle.records.specs.Refusals.{Checked, good, refused}
+use Rattle.rules.specs.Refusals.{Checked, good, refused}
 use Rattle.records.specs.Records.{Content, Found, contentView, readOf}
 use Rattle.map_file.specs.View.{Fits, stepOf, settingsAfter, countedIn}
 use Rattle.records.specs.declared.beatmap.Settings.{Settings}
@@ -14,9 +14,9 @@ use Rattle.records.specs.declared.record.Read.the-variants.{Good, Refused}
 use Rattle.map_file.specs.declared.file.Counts.{Counts}
 use Rattle.map_file.specs.declared.file.Reader.{Reader}
 use Rattle.map_file.specs.declared.file.Step.the-variants as step
-use Rattle.records.proofs.All.{All, none, that}
+use Rattle.rules.proofs.All.{All, none, that}
 use Rattle.map_file.proofs.Sizes.{Sized}
-use Rattle.records.proofs.Laws.{never}
+use Rattle.rules.proofs.Laws.{never}
 
 pub rest-is : (s : List ℕ) (at : ℕ) → take (length s - at) (drop at s) ≡ drop at s
 rest-is s at = let h : length (drop at s) ≤ length s - at = simp length-drop (omega arith) in take-all (length s - at) (drop at s) h

@@ -9,9 +9,9 @@ use lib.Ieee.{ofBits, ofInt, round, toUnsigned, mul, div, le, lt, eq, neg}
 use Rattle.numbers.specs.Words.{wordAt, bytesOf}
 use Rattle.spinner.specs.HalfSpins.{totalHalfSpins, requiredHalfSpins}
 use Rattle.spinner.specs.Bonus.{walked, legacyOf}
-use Rattle.records.specs.Refusals.{refused, good, _>>=_, _>>_, refuse_when_}
+use Rattle.rules.specs.Refusals.{refused, good, _>>=_, _>>_, refuse_when_}
 use Rattle.records.specs.Objects.{bonus}
-use Rattle.records.specs.Play.{flagsBad, hitresultsOf}
+use Rattle.play_state.specs.Play.{flagsBad, hitresultsOf}
 use Rattle.records.specs.Records.{Found, headerOf, breakOf, circleOf, nestedOf, sliderOf, spinnerOf, playOf, objectOf}
 use Rattle.map_file.specs.Order.{noRank, headerRank, breakRank, objectRank, playRank, bodyOf, recordOf}
 use Rattle.map_file.specs.File.{Result, accepted, refusedAt, countsOf, with-record, fileFrom, fileOf}

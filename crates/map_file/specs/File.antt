@@ -5,13 +5,13 @@ use mathlib.Core.List.{List, [], _∷_, _++_}
 use lib.Dec.{eqb, ltb}
 use lib.ListN.{length, drop}
 use lib.Ieee.{binary32, ofBits}
-use Rattle.records.specs.Refusals.{Checked, good, refused, pick, MARK}
+use Rattle.rules.specs.Refusals.{Checked, good, refused, pick, MARK}
 use Rattle.records.specs.Objects.{Object, bonus}
 use Rattle.records.specs.Records.{Content, header, break, object, play}
 use Rattle.map_file.specs.Order.{recordOf, noRank, headerRank, breakRank, objectRank, playRank}
 use Rattle.records.specs.declared.beatmap.Settings.{Settings}
 use Rattle.records.specs.declared.beatmap.BreakPeriod.{BreakPeriod}
-use Rattle.records.specs.declared.play.Play.{Play}
+use Rattle.play_state.specs.declared.Play.{Play}
 use Rattle.map_file.specs.declared.file.Counts.{Counts}
 
 -- "A map is settings, breaks and objects"

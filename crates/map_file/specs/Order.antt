@@ -3,9 +3,9 @@ use Prim.Native.Nat.{ℕ, _+_}
 use mathlib.Core.Bool.{Bool, true, false, not, _&&_}
 use mathlib.Core.List.{List}
 use lib.Dec.{eqb, leb, ltb}
-use Rattle.records.specs.Limits.{maxObjects, maxBreaks, maxBonus, markSize}
+use Rattle.rules.specs.Limits.{maxObjects, maxBreaks, maxBonus, markSize}
 use Rattle.numbers.specs.Words.{wordAt}
-use Rattle.records.specs.Refusals.{Checked, good, refused, _>>=_, _>>_, refuse_when_, pick, CUT, MARK, COUNT, BONUS}
+use Rattle.rules.specs.Refusals.{Checked, good, refused, _>>=_, _>>_, refuse_when_, pick, CUT, MARK, COUNT, BONUS}
 use Rattle.records.specs.Fields.{cut}
 use Rattle.records.specs.Objects.{kindBonus}
 use Rattle.records.specs.Records.{Content, header, break, object, play, Found, CI, SL, SP, headerOf, breakOf, playOf, objectOf}

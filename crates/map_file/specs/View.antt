@@ -4,9 +4,9 @@ use mathlib.Core.Bool.{Bool, true, false}
 use mathlib.Core.List.{List}
 use lib.Ieee.{binary32, ofBits}
 use Rattle.map_file.specs.Order.{noRank, headerRank, breakRank, objectRank, playRank}
-use Rattle.records.specs.Limits.{maxBreaks, maxObjects, maxBonus}
+use Rattle.rules.specs.Limits.{maxBreaks, maxObjects, maxBonus}
 use Rattle.spinner.specs.Bonus.{legacyOf}
-use Rattle.records.specs.Refusals.{Checked, good, refused}
+use Rattle.rules.specs.Refusals.{Checked, good, refused}
 use Rattle.records.specs.Records.{Content, Found, contentView}
 use Rattle.map_file.specs.File.{File, Result, accepted, refusedAt, countsOf, fileOf}
 use Rattle.records.specs.declared.beatmap.Settings.{Settings}

@@ -6,10 +6,10 @@ use records::beatmap::Settings;
 use records::hit_object;
 use records::hit_object::HitObject;
 use records::hit_object::HitObjectKind;
-use records::play;
+use records::play_record;
 use records::record::Read;
 use records::record::Record;
-use records::refusal;
+use rules::refusal;
 ghost use mathlib.Core.Path.{_≡_};
 ghost use Prim.Native.Nat.{_+_, _≤_, _<_};
 ghost use lib.ListN.{length, drop};
@@ -137,7 +137,7 @@ fn read_body(r: &[u8], mark: u64) -> Read
         return beatmap::read_break(r);
     }
     if mark == PL {
-        return play::read_play(r);
+        return play_record::read_play(r);
     }
     hit_object::read_object(r, mark)
 }

@@ -1,6 +1,6 @@
 -- Counts of a play: `OsuHitResults::total_hits` and `total_imperfect_hits`.
 use Prim.Native.Nat.{ℕ, _+_}
-use Rattle.records.specs.declared.play.OsuHitResults.{OsuHitResults}
+use Rattle.play_state.specs.declared.OsuHitResults.{OsuHitResults}
 
 -- the judgements
 abbrev pub totalHits : OsuHitResults → ℕ

@@ -2,8 +2,8 @@
 use mathlib.Core.Bool.{Bool, cond, _||_}
 use lib.Ieee.{Float, lt}
 use Rattle.numbers.specs.Floats.{whole, part, _⊗_}
-use Rattle.records.specs.Play.{flagAt}
-use Rattle.records.specs.declared.play.GameMods.{GameMods}
+use Rattle.play_state.specs.Play.{flagAt}
+use Rattle.play_state.specs.declared.GameMods.{GameMods}
 
 -- a factor that counts where a modifier is on
 unfoldable pub timesIf : Float → Bool → Float → Float

@@ -6,9 +6,9 @@ use lib.Ieee.{Float, neg, lt, le}
 use Rattle.numbers.specs.Floats.{whole, _⊕_, _⊖_, _⊗_, _⊘_}
 use Rattle.numbers.specs.MinMax.{maxOf, minOf}
 use Rattle.square_root.specs.Roots.{powerOf}
-use Rattle.records.specs.Refusals.{pick}
-use Rattle.records.specs.declared.play.LegacyTotalScore.{LegacyTotalScore}
-use Rattle.records.specs.declared.play.LegacyTotalScore.the-variants.{Absent, Present}
+use Rattle.rules.specs.Refusals.{pick}
+use Rattle.play_state.specs.declared.LegacyTotalScore.{LegacyTotalScore}
+use Rattle.play_state.specs.declared.LegacyTotalScore.the-variants.{Absent, Present}
 use Rattle.simulator.specs.declared.attributes.OsuDifficultyAttributes.{OsuDifficultyAttributes}
 use Rattle.miss_calc.specs.Counts.{totalHits, imperfectHits}
 use Rattle.miss_calc.specs.Threshold.{thresholdOf, cappedOf}

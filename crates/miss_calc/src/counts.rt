@@ -1,5 +1,5 @@
 // Counts of a play and of a map.
-use records::play::OsuHitResults;
+use play_state::OsuHitResults;
 ghost use mathlib.Core.Path.{_≡_};
 ghost use Prim.Native.Nat.{_≤_};
 ghost use Rattle.miss_calc.specs.Counts.{totalHits, imperfectHits};

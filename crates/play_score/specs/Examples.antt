@@ -4,14 +4,14 @@ use Prim.Native.Nat.{ℕ}
 use mathlib.Core.Path.{_≡_, refl}
 use mathlib.Core.List.{List, [], _∷_, map}
 use lib.Ieee.{binary64, ofBits, lt, le, eq}
-use Rattle.records.specs.Refusals.{Checked, refused, good, _>>=_, _>>_, refuse_when_}
-use Rattle.records.specs.Play.{flagsBad}
-use Rattle.records.specs.declared.play.OsuHitResults.{OsuHitResults}
-use Rattle.records.specs.declared.play.OsuScoreOrigin.{OsuScoreOrigin}
-use Rattle.records.specs.declared.play.OsuScoreOrigin.the-variants.{Stable, WithSliderAcc, WithoutSliderAcc}
-use Rattle.records.specs.declared.play.LegacyTotalScore.{LegacyTotalScore}
-use Rattle.records.specs.declared.play.LegacyTotalScore.the-variants.{Absent, Present}
-use Rattle.records.specs.declared.play.Play.{Play}
+use Rattle.rules.specs.Refusals.{Checked, refused, good, _>>=_, _>>_, refuse_when_}
+use Rattle.play_state.specs.Play.{flagsBad}
+use Rattle.play_state.specs.declared.OsuHitResults.{OsuHitResults}
+use Rattle.play_state.specs.declared.OsuScoreOrigin.{OsuScoreOrigin}
+use Rattle.play_state.specs.declared.OsuScoreOrigin.the-variants.{Stable, WithSliderAcc, WithoutSliderAcc}
+use Rattle.play_state.specs.declared.LegacyTotalScore.{LegacyTotalScore}
+use Rattle.play_state.specs.declared.LegacyTotalScore.the-variants.{Absent, Present}
+use Rattle.play_state.specs.declared.Play.{Play}
 use Rattle.simulator.specs.declared.attributes.ScoreAttributes.{ScoreAttributes}
 use Rattle.play_score.specs.PlayRules.{modsBad, hitsExceed, exceeds, isDue, overCombo, playScore, givenScore}
 use Rattle.play_score.specs.declared.PlayScore.{PlayScore}

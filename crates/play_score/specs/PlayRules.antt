@@ -5,14 +5,14 @@ use mathlib.Core.Bool.{Bool, true, false, not, _&&_, _||_}
 use lib.Dec.{eqb, ltb}
 use lib.Ieee.{binary64, ofBits, lt, le}
 use Rattle.records.specs.Fields.{isRate}
-use Rattle.records.specs.Refusals.{Checked, good, refused, _>>=_, _>>_, refuse_when_, PLAY-FIELD, PLAY-EXCEEDS, PLAY-COMBO}
-use Rattle.records.specs.Play.{flagsBad}
-use Rattle.records.specs.declared.play.GameMods.{GameMods}
-use Rattle.records.specs.declared.play.LegacyTotalScore.{LegacyTotalScore}
-use Rattle.records.specs.declared.play.LegacyTotalScore.the-variants.{Absent, Present}
-use Rattle.records.specs.declared.play.OsuHitResults.{OsuHitResults}
-use Rattle.records.specs.declared.play.OsuScoreOrigin.{OsuScoreOrigin}
-use Rattle.records.specs.declared.play.Play.{Play}
+use Rattle.rules.specs.Refusals.{Checked, good, refused, _>>=_, _>>_, refuse_when_, PLAY-FIELD, PLAY-EXCEEDS, PLAY-COMBO}
+use Rattle.play_state.specs.Play.{flagsBad}
+use Rattle.play_state.specs.declared.GameMods.{GameMods}
+use Rattle.play_state.specs.declared.LegacyTotalScore.{LegacyTotalScore}
+use Rattle.play_state.specs.declared.LegacyTotalScore.the-variants.{Absent, Present}
+use Rattle.play_state.specs.declared.OsuHitResults.{OsuHitResults}
+use Rattle.play_state.specs.declared.OsuScoreOrigin.{OsuScoreOrigin}
+use Rattle.play_state.specs.declared.Play.{Play}
 use Rattle.simulator.specs.declared.attributes.OsuDifficultyAttributes.{OsuDifficultyAttributes}
 use Rattle.simulator.specs.declared.attributes.ScoreAttributes.{ScoreAttributes}
 use Rattle.miss_calc.specs.Counts.{totalHits}

@@ -10,7 +10,7 @@ use lib.ListN.{length, getD, take, drop, drop-of-length-le, length-drop}
 use lib.Seq.{drop-cons}
 use lib.Dec.{eqb}
 use lib.Ieee.{Float}
-use Rattle.records.specs.Refusals.{Checked, good, refused, _>>=_, pick}
+use Rattle.rules.specs.Refusals.{Checked, good, refused, _>>=_, pick}
 use Rattle.records.specs.Objects.{Item, tick, repeat, slider, repeats, ticks, sliderView}
 use Rattle.records.specs.Records.{object, itemOf, nestedOf, nestedView, readOf}
 use Rattle.records.specs.declared.hit_object.Slider.{Slider}

@@ -6,7 +6,7 @@ use lib.Dec.{ltb}
 use lib.IntN.{pos}
 use lib.ListN.{length}
 use lib.Ieee.{Float, binary32, binary64, ofBits, neg, lt, le}
-use Rattle.records.specs.Refusals.{Checked, good, refused, pick, RANGE, PLAY-FIELD}
+use Rattle.rules.specs.Refusals.{Checked, good, refused, pick, RANGE, PLAY-FIELD}
 use Rattle.records.specs.declared.fields.Double.{Double}
 use Rattle.records.specs.declared.fields.Double.the-variants as double
 use Rattle.records.specs.declared.fields.Single.{Single}

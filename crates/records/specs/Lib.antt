@@ -1,6 +1,3 @@
-pub mod Refusals
-pub mod Limits
 pub mod Fields
 pub mod Objects
-pub mod Play
 pub mod Records

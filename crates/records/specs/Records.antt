@@ -6,17 +6,17 @@ use mathlib.Core.List.{List, [], _∷_}
 use lib.Dec.{eqb, ltb}
 use lib.ListN.{take, drop}
 use lib.Ieee.{Float}
-use Rattle.records.specs.Limits.{maxNested, headerSize, breakSize, circleSize, sliderSize, spinnerSize, playSize}
+use Rattle.rules.specs.Limits.{maxNested, headerSize, breakSize, circleSize, sliderSize, spinnerSize, playSize}
 use Rattle.numbers.specs.Words.{wordAt}
-use Rattle.records.specs.Refusals.{Checked, good, refused, _>>=_, _>>_, refuse_when_, pick, CUT, MARK, NESTED, COUNT, PLAY-FIELD}
+use Rattle.rules.specs.Refusals.{Checked, good, refused, _>>=_, _>>_, refuse_when_, pick, CUT, MARK, NESTED, COUNT, PLAY-FIELD}
 use Rattle.records.specs.Fields.{cut, timeOf, durationOf, rateOf, settingOf, timed, set, played}
 use Rattle.records.specs.Objects.{Item, tick, repeat, circle, slider, spinner, Object, sliderView, objectView}
-use Rattle.records.specs.Play.{originOf, scoreOf, flagsBad, hitresultsOf, originChecked, scoreChecked}
+use Rattle.play_state.specs.Play.{originOf, scoreOf, flagsBad, hitresultsOf, originChecked, scoreChecked}
 use Rattle.records.specs.declared.beatmap.Settings.{Settings}
 use Rattle.records.specs.declared.beatmap.BreakPeriod.{BreakPeriod}
 use Rattle.records.specs.declared.hit_object.Nested.{Nested}
 use Rattle.records.specs.declared.hit_object.Nested.the-variants.{Counts, Wrong}
-use Rattle.records.specs.declared.play.Play.{Play}
+use Rattle.play_state.specs.declared.Play.{Play}
 use Rattle.records.specs.declared.record.Record.{Record}
 use Rattle.records.specs.declared.record.Record.the-variants.{Header, Break, Object as ObjectRecord, Play as PlayRecord}
 use Rattle.records.specs.declared.record.Read.{Read}

@@ -4,7 +4,7 @@ use crate::fields::Double;
 use crate::fields::Single;
 use crate::record::Read;
 use crate::record::Record;
-use crate::refusal;
+use rules::refusal;
 ghost use mathlib.Core.Path.{_≡_};
 ghost use Rattle.records.specs.Records.{readOf, headerOf, breakOf};
 

@@ -2,7 +2,7 @@
 use crate::beatmap::BreakPeriod;
 use crate::beatmap::Settings;
 use crate::hit_object::HitObject;
-use crate::play::Play;
+use play_state::Play;
 
 pub enum Record {
     Header(Settings),

@@ -8,9 +8,9 @@ use lib.Signed.{mag}
 use lib.Ieee.{Float, nan, inf, fin, up, down, lt}
 use lib.Ieee.Nearest.{closest}
 use lib.ListN.{length, take, length-take}
-use Rattle.records.specs.Limits.{maxBreaks}
+use Rattle.rules.specs.Limits.{maxBreaks}
 use Rattle.numbers.specs.Rounding.{saturated, roundTiesEvenI32}
-use Rattle.records.specs.Refusals.{pick}
+use Rattle.rules.specs.Refusals.{pick}
 use Rattle.records.specs.Objects.{Object}
 use Rattle.map_file.specs.File.{Map}
 use Rattle.records.specs.declared.beatmap.BreakPeriod.{BreakPeriod}

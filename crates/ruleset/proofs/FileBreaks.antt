@@ -10,7 +10,7 @@ use lib.ListN.{length, drop}
 use lib.Ieee.{binary64, ofBits, neg, le}
 use Rattle.numbers.specs.Words.{wordAt}
 use Rattle.numbers.proofs.words.Laws.{wordAt-drop}
-use Rattle.records.specs.Refusals.{good, pick}
+use Rattle.rules.specs.Refusals.{good, pick}
 use Rattle.records.specs.Fields.{timed, timeOf, timeLimit}
 use Rattle.records.specs.Records.{Content, header, break, object, play, headerOf, breakOf, playOf, objectOf, circleOf, sliderOf, spinnerOf, CI, SL, SP}
 use Rattle.map_file.specs.Order.{MH, BR, PL, rankOf, inOrder, bodyOf, recordOf}
@@ -18,7 +18,7 @@ use Rattle.map_file.specs.File.{File, countsOf, with-record, fresh}
 use Rattle.records.specs.declared.beatmap.BreakPeriod.{BreakPeriod}
 use Rattle.records.specs.declared.fields.Double.the-variants as double
 use Rattle.map_file.specs.declared.file.Counts.{Counts}
-use Rattle.records.proofs.All.{All, none, that, all-bind, all-any, all-when, all-pick, all-out}
+use Rattle.rules.proofs.All.{All, none, that, all-bind, all-any, all-when, all-pick, all-out}
 use Rattle.map_file.proofs.Reading.{foundAt, length-snoc}
 use Rattle.ruleset.specs.Drain.{breaksFrom, breaksIn}
 use Rattle.ruleset.proofs.Breaks.{between}

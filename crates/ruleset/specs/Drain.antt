@@ -5,11 +5,11 @@ use lib.IntN.{ℤ, pos, _+ℤ_, _-ℤ_}
 use lib.Signed.{quotZ}
 use lib.ListN.{length}
 use lib.Ieee.{Float, binary64, lt, ofBits}
-use Rattle.records.specs.Limits.{headerSize, breakSize}
+use Rattle.rules.specs.Limits.{headerSize, breakSize}
 use Rattle.numbers.specs.Floats.{whole}
 use Rattle.numbers.specs.Rounding.{roundTiesEvenI32}
 use Rattle.numbers.specs.Words.{wordAt}
-use Rattle.records.specs.Refusals.{pick}
+use Rattle.rules.specs.Refusals.{pick}
 use Rattle.records.specs.Objects.{Object}
 use Rattle.records.specs.declared.beatmap.BreakPeriod.{BreakPeriod}
 

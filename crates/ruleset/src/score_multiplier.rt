@@ -10,7 +10,7 @@ ghost use Prim.Native.Nat.{_+_, _≤_, _<_, _^_, _*_};
 ghost use lib.IntN.{_+ℤ_};
 ghost use lib.ListN.{length};
 ghost use lib.Signed.{mag};
-ghost use Rattle.records.specs.Limits.{maxBreaks};
+ghost use Rattle.rules.specs.Limits.{maxBreaks};
 ghost use Rattle.ruleset.specs.Drain.{lengthOf, breaksLength, breaksOf, breaksIn, drainOf};
 ghost use Rattle.ruleset.specs.Stars.{SettingsIn, multiplierOf};
 

@@ -4,9 +4,9 @@ use mathlib.Core.List.{List, [], _∷_}
 use Prim.Native.Nat.{ℕ, zero, suc, min}
 use native.Mathlib.Omega.{arith}
 use lib.ListN.{length}
-use Rattle.records.specs.Refusals.{Checked, good, refused}
+use Rattle.rules.specs.Refusals.{Checked, good, refused}
 use Rattle.map_file.specs.File.{Map, File, Result, accepted, refusedAt, fileOf}
-use Rattle.records.specs.declared.play.Play.{Play}
+use Rattle.play_state.specs.declared.Play.{Play}
 use Rattle.encoding.specs.Limits.{MapWithin}
 use Rattle.encoding.proofs.Accepted.{accepted-within}
 use Rattle.simulator.specs.Attributes.{scoreAttributesAt}
@@ -27,7 +27,7 @@ use Rattle.scoring.specs.declared.score.MapScore.the-variants as map·sc
 use Rattle.play_score.specs.declared.GivenPlay.{GivenPlay}
 use Rattle.play_score.specs.declared.GivenPlay.the-variants as given
 use Rattle.scoring.specs.declared.score.ListedPlay.the-variants as listed
-use Rattle.records.proofs.Laws.{never}
+use Rattle.rules.proofs.Laws.{never}
 
 -- ---- a play on what the file before it holds
 pub in-refused : (r : Result) (p : Play) (n at : ℕ) → simulated.Refused n at ≡ simulatedOf r (p .«passed_objects») → scored.Refused n ≡ scoredIn r p

@@ -5,10 +5,10 @@ use mathlib.Core.Bool.{Bool, true, false}
 use mathlib.Core.List.{List, [], _∷_, _++_, append-nil}
 use Prim.Native.Nat.{ℕ}
 use lib.ListN.{length}
-use Rattle.records.specs.Refusals.{Checked, good, refused, _>>_, refuse_when_}
+use Rattle.rules.specs.Refusals.{Checked, good, refused, _>>_, refuse_when_}
 use Rattle.records.specs.Records.{play, playOf}
 use Rattle.map_file.specs.File.{Map, fileOf}
-use Rattle.records.specs.declared.play.Play.{Play}
+use Rattle.play_state.specs.declared.Play.{Play}
 use Rattle.encoding.specs.Limits.{MapWithin, PlaySized}
 use Rattle.encoding.specs.Encoding.{mapFile, playBytes}
 use Rattle.encoding.proofs.RecordsBack.{play-read}

@@ -4,9 +4,9 @@ use mathlib.Core.List.{List, [], _∷_, _++_}
 use Prim.Native.Nat.{ℕ, zero, suc, _-_}
 use native.Mathlib.Omega.{arith}
 use lib.Dec.{eqb·suc-zero}
-use Rattle.records.specs.Refusals.{Checked, good, refused, pick}
+use Rattle.rules.specs.Refusals.{Checked, good, refused, pick}
 use Rattle.map_file.specs.File.{Map}
-use Rattle.records.specs.declared.play.Play.{Play}
+use Rattle.play_state.specs.declared.Play.{Play}
 use Rattle.scoring.specs.Scores.{Outcome, refusal, values, at-offset, then, playScoreOn, playScores}
 use Rattle.scoring.specs.View.{wantedOf, wantedAfter}
 use Rattle.play_score.specs.declared.PlayScore.{PlayScore}

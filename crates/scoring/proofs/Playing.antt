@@ -8,13 +8,13 @@ use native.Mathlib.Omega.{arith}
 use borrow.Author.Tests.{eq-eqb, ne-eqb, eqb-true}
 use lib.Dec.{eqb, ltb}
 use lib.ListN.{length, take, drop}
-use Rattle.records.specs.Refusals.{Checked, good, refused, pick}
+use Rattle.rules.specs.Refusals.{Checked, good, refused, pick}
 use Rattle.records.specs.Objects.{Object}
 use Rattle.records.specs.Records.{Content, header, break, object, play, Found, contentView}
 use Rattle.map_file.specs.Order.{recordOf}
 use Rattle.map_file.specs.File.{Map, File, Result, accepted, refusedAt, countsOf, with-record, follow, ended, fileFrom, fresh, fileOf}
 use Rattle.map_file.specs.View.{stepOf, countedIn}
-use Rattle.records.specs.declared.play.Play.{Play}
+use Rattle.play_state.specs.declared.Play.{Play}
 use Rattle.records.specs.declared.record.Record.{Record}
 use Rattle.records.specs.declared.record.Record.the-variants as record·case
 use Rattle.map_file.specs.declared.file.Counts.{Counts}
@@ -22,7 +22,7 @@ use Rattle.map_file.specs.declared.file.Reader.{Reader}
 use Rattle.records.specs.declared.hit_object.HitObject.{HitObject}
 use Rattle.map_file.specs.declared.file.Step.{Step}
 use Rattle.map_file.specs.declared.file.Step.the-variants as step
-use Rattle.records.proofs.All.{all-out}
+use Rattle.rules.proofs.All.{all-out}
 use Rattle.map_file.proofs.Reading.{Chain, start, Kept, Moved, Seen, seen, all-read, chain-on, chain-inside, chain-file, chain-plays, found-ordered, foundAt, with-last, kept-start, kept-step, kept-stop}
 use Rattle.map_file.proofs.Room.{placeOf, Begun, record-begun}
 use Rattle.encoding.specs.Limits.{MapWithin}
@@ -47,7 +47,7 @@ use Rattle.scoring.specs.declared.plays.Walked.the-variants as walked
 use Rattle.scoring.specs.declared.plays.RecordScore.the-variants as record·score
 use Rattle.scoring.specs.declared.plays.Plays.the-variants as answer
 use Rattle.scoring.proofs.Lists.{scores-none, scores-more, scores-refused, refused-more, wanted-more}
-use Rattle.records.proofs.Laws.{never}
+use Rattle.rules.proofs.Laws.{never}
 
 counts-last : (f : File) → countsOf f .last ≡ f .last
 unfolding countsOf

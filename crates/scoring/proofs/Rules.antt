@@ -8,10 +8,10 @@ use borrow.Author.Tests.{ltb-true}
 use lib.Dec.{eqb, ltb}
 use lib.ListN.{length, take, drop}
 use Rattle.numbers.specs.Words.{wordAt}
-use Rattle.records.specs.Refusals.{Checked, good, refused, _>>=_, _>>_, refuse_when_, pick}
+use Rattle.rules.specs.Refusals.{Checked, good, refused, _>>=_, _>>_, refuse_when_, pick}
 use Rattle.records.specs.Fields.{cut, timeOf, durationOf, rateOf, settingOf, timed, set, played}
 use Rattle.records.specs.Objects.{Item}
-use Rattle.records.specs.Play.{originOf, scoreOf, flagsBad, originChecked, scoreChecked}
+use Rattle.play_state.specs.Play.{originOf, scoreOf, flagsBad, originChecked, scoreChecked}
 use Rattle.records.specs.Records.{Content, Found, CI, SL, SP, headerOf, breakOf, circleOf, itemOf, nestedOf, sliderOf, spinnerOf, playOf, objectOf}
 use Rattle.map_file.specs.Order.{MH, BR, PL, rankOf, inOrder, isFull, overBonus, contentBonus, bodyOf, recordOf}
 use Rattle.map_file.specs.File.{File, Result, accepted, refusedAt, countsOf, with-record, follow, ended, fileFrom, fresh, fileOf}
@@ -19,12 +19,12 @@ use Rattle.records.specs.declared.fields.Double.{Double}
 use Rattle.records.specs.declared.fields.Double.the-variants as double
 use Rattle.records.specs.declared.fields.Single.{Single}
 use Rattle.records.specs.declared.fields.Single.the-variants as single
-use Rattle.records.specs.declared.play.Origin.{Origin}
-use Rattle.records.specs.declared.play.Origin.the-variants as origin
-use Rattle.records.specs.declared.play.Score.{Score}
-use Rattle.records.specs.declared.play.Score.the-variants as score
+use Rattle.play_state.specs.declared.Origin.{Origin}
+use Rattle.play_state.specs.declared.Origin.the-variants as origin
+use Rattle.play_state.specs.declared.Score.{Score}
+use Rattle.play_state.specs.declared.Score.the-variants as score
 use Rattle.map_file.specs.declared.file.Counts.{Counts}
-use Rattle.records.specs.declared.play.Play.{Play}
+use Rattle.play_state.specs.declared.Play.{Play}
 use Rattle.map_file.specs.File.{Map}
 use Rattle.map_file.proofs.Reading.{foundAt, found-sized, with-at}
 use Rattle.simulator.specs.Attributes.{scoreAttributesAt}

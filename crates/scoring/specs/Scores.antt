@@ -2,9 +2,9 @@
 use Prim.Native.Nat.{ℕ, zero, suc}
 use mathlib.Core.List.{List, [], _∷_}
 use lib.ListN.{length}
-use Rattle.records.specs.Refusals.{Checked, good, refused}
+use Rattle.rules.specs.Refusals.{Checked, good, refused}
 use Rattle.map_file.specs.File.{Map, Result, accepted, refusedAt}
-use Rattle.records.specs.declared.play.Play.{Play}
+use Rattle.play_state.specs.declared.Play.{Play}
 use Rattle.simulator.specs.Attributes.{scoreAttributesAt}
 use Rattle.play_score.specs.PlayRules.{playScore, givenAnswer, givenScore}
 use Rattle.play_score.specs.declared.PlayScore.{PlayScore}

@@ -3,11 +3,11 @@ use Prim.Native.Nat.{ℕ, zero, suc, _-_, min}
 use mathlib.Core.List.{List, [], _∷_}
 use lib.Dec.{eqb}
 use lib.ListN.{length, take, drop}
-use Rattle.records.specs.Refusals.{pick}
+use Rattle.rules.specs.Refusals.{pick}
 use Rattle.map_file.specs.Order.{recordOf}
 use Rattle.map_file.specs.File.{Result, accepted, refusedAt, fileOf}
 use Rattle.map_file.specs.View.{stepOf, freshOf}
-use Rattle.records.specs.declared.play.Play.{Play}
+use Rattle.play_state.specs.declared.Play.{Play}
 use Rattle.records.specs.declared.record.Record.{Record}
 use Rattle.records.specs.declared.record.Record.the-variants as record·case
 use Rattle.map_file.specs.declared.file.Reader.{Reader}

@@ -5,7 +5,7 @@ use crate::plays::check_plays;
 use play_score::GivenPlay;
 use play_score::PlayScore;
 use play_score::score_given;
-use records::play::Play;
+use play_state::Play;
 use simulator::attributes::ScoreAttributes;
 ghost use mathlib.Core.Path.{_≡_};
 ghost use Rattle.map_file.specs.File.{fileOf};

@@ -4,7 +4,7 @@ use Prim.Native.Nat.{ℕ, _+_, _-_, _*_, _^_, _≤_, _<_}
 use native.Mathlib.Nat.{lt-of-le-of-lt, mul-le-mul}
 use lib.Dec.{lit<}
 use native.Mathlib.Omega.{arith}
-use Rattle.records.specs.Limits.{maxObjects, maxNested, maxCombosBefore}
+use Rattle.rules.specs.Limits.{maxObjects, maxNested, maxCombosBefore}
 use Rattle.records.specs.Objects.{Kind, circle, slider, spinner, repeats, ticks, kindView}
 use Rattle.simulator.specs.Hits.{hitsOf}
 use Rattle.simulator.specs.Walk.{State, fresh, walk}

@@ -6,7 +6,7 @@ use native.Mathlib.Omega.{arith}
 use mathlib.Core.List.{List, [], _∷_}
 use lib.Dec.{lit≤, lit<}
 use lib.Ieee.{Float, toUnsigned}
-use Rattle.records.specs.Limits.{maxCombo}
+use Rattle.rules.specs.Limits.{maxCombo}
 use Rattle.numbers.specs.Floats.{whole, _⊕_, _⊗_}
 use Rattle.numbers.proofs.Wholes.{whole-add, whole-mul, whole-cut}
 use Rattle.records.specs.Objects.{Object, Kind, circle, slider, spinner}

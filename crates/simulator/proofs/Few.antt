@@ -4,10 +4,10 @@ use mathlib.Core.List.{List, [], _∷_, _++_}
 use Prim.Native.Nat.{ℕ, zero, suc, _+_, _≤_}
 use native.Mathlib.Omega.{arith}
 use lib.ListN.{length, take, length-take}
-use Rattle.records.specs.Limits.{maxNested, maxObjects}
+use Rattle.rules.specs.Limits.{maxNested, maxObjects}
 use Rattle.records.specs.Objects.{Object, Kind, circle, slider, spinner, kindView}
 use Rattle.records.specs.Records.{Content, header, break, object, play, objectOf}
-use Rattle.records.proofs.All.{All, all-map}
+use Rattle.rules.proofs.All.{All, all-map}
 use Rattle.encoding.specs.Limits.{Each, none, one, KindWithin, BreakWithin, ObjectWithin, SettingsWithin}
 use Rattle.encoding.proofs.Accepted.{object-within}
 use Rattle.simulator.specs.Hits.{hitsOf}

@@ -5,7 +5,7 @@ use lib.Dec.{eqb}
 use lib.ListN.{take}
 use lib.Ieee.{Float}
 use Rattle.numbers.specs.Floats.{whole, _⊘_}
-use Rattle.records.specs.Refusals.{pick}
+use Rattle.rules.specs.Refusals.{pick}
 use Rattle.map_file.specs.File.{Map}
 use Rattle.ruleset.specs.Stars.{multiplierAt}
 use Rattle.simulator.specs.Walk.{State, fresh, after}

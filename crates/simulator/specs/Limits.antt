@@ -1,6 +1,6 @@
 -- The most that n objects add up to: a bound for every sum of the running state and of the counts.
 use Prim.Native.Nat.{ℕ, _+_, _*_, _≤_, _^_}
-use Rattle.records.specs.Limits.{maxGain, maxCombo, maxCombosBefore}
+use Rattle.rules.specs.Limits.{maxGain, maxCombo, maxCombosBefore}
 use Rattle.simulator.specs.Walk.{State}
 use Rattle.simulator.specs.declared.legacy_score.NestedScorePerObject.{NestedScorePerObject}
 use Rattle.records.specs.declared.hit_object.HitObjectKind.{HitObjectKind}

@@ -6,7 +6,7 @@ use numbers::rounding::float;
 use spinner::StandardisedBonusScore;
 ghost use mathlib.Core.Path.{_≡_};
 ghost use Prim.Native.Nat.{_≤_};
-ghost use Rattle.records.specs.Limits.{maxObjects};
+ghost use Rattle.rules.specs.Limits.{maxObjects};
 ghost use Rattle.simulator.specs.Attributes.{difficultyAttributesOf, scoreAttributesOf};
 ghost use Rattle.simulator.specs.Limits.{Bounded, Counted};
 ghost use Rattle.simulator.specs.View.{times};

@@ -9,7 +9,7 @@ use spinner::HalfSpins;
 use spinner::half_spins;
 ghost use mathlib.Core.Path.{_≡_};
 ghost use Prim.Native.Nat.{_≤_, _<_, _^_, _-_};
-ghost use Rattle.records.specs.Limits.{maxObjects, maxNested};
+ghost use Rattle.rules.specs.Limits.{maxObjects, maxNested};
 ghost use Rattle.simulator.specs.Nested.{spinsScore, spinnerScoreOf, nestedScoreOf, counted, noObject};
 ghost use Rattle.simulator.specs.Limits.{Counted, nestedCount};
 ghost use Rattle.simulator.specs.View.{kindOf};

@@ -8,7 +8,7 @@ use spinner::LegacyBonusScore;
 use spinner::StandardisedBonusScore;
 ghost use mathlib.Core.Path.{_≡_};
 ghost use Prim.Native.Nat.{_+_, _-_, _*_, _≤_};
-ghost use Rattle.records.specs.Limits.{maxCombo, maxObjects, maxNested};
+ghost use Rattle.rules.specs.Limits.{maxCombo, maxObjects, maxNested};
 ghost use Rattle.simulator.specs.Hits.{hitsOf};
 ghost use Rattle.simulator.specs.Walk.{walk, fresh};
 ghost use Rattle.simulator.specs.Attributes.{bonusRatioOf, legacyAttributesOf};

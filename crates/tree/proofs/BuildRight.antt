@@ -9,7 +9,7 @@ use native.Mathlib.Nat.{add-zero, zero-add, add-sub-cancel-left, not-suc-le-zero
 use native.Mathlib.Decide.{ℕ-discrete, decLt}
 use lib.Pow.{pow-pos}
 use lib.ListN.{length, take, drop, drop-of-length-le}
-use Rattle.records.specs.Limits.{maxObjects}
+use Rattle.rules.specs.Limits.{maxObjects}
 use Rattle.records.specs.Objects.{Object}
 use Rattle.entries.specs.Entry.{none, joined, entryOf, inLimits, entryWords, placeWords}
 use Rattle.entries.specs.Words.{entryAt, putEntry, wordsFrom}

@@ -12,8 +12,8 @@ use lib.ListN.{length, take, set, length-set, length-append}
 use lib.Pow.{pow-pos}
 use lib.Seq.{drop-at}
 use borrow.Author.Tests.{lt-ltb, le-ltb}
-use Rattle.records.specs.Limits.{maxObjects, maxBonus}
-use Rattle.records.specs.Refusals.{good, refused}
+use Rattle.rules.specs.Limits.{maxObjects, maxBonus}
+use Rattle.rules.specs.Refusals.{good, refused}
 use Rattle.records.specs.Objects.{Object, kindBonus, bonus}
 use Rattle.encoding.specs.Limits.{Each, none, one, ObjectWithin}
 use Rattle.entries.specs.Entry.{none as noEntry, entryOf, inLimits, placeWords, entryWords}

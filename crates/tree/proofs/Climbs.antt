@@ -7,8 +7,8 @@ use native.Mathlib.Omega.{arith}
 use native.Mathlib.Decide.{ℕ-discrete}
 use borrow.Author.Tests.{eq-eqb, ne-eqb, ltb-false, not-false}
 use lib.Dec.{ltb, eqb}
-use Rattle.records.specs.Limits.{maxBonus}
-use Rattle.records.specs.Refusals.{Checked, good, refused, _>>=_, _>>_, refuse_when_}
+use Rattle.rules.specs.Limits.{maxBonus}
+use Rattle.rules.specs.Refusals.{Checked, good, refused, _>>=_, _>>_, refuse_when_}
 use Rattle.entries.specs.Entry.{joined, inLimits}
 use Rattle.entries.specs.Words.{entryAt, putEntry}
 use Rattle.entries.specs.declared.entry.Entry.{Entry}
@@ -17,7 +17,7 @@ use Rattle.tree.specs.Put.{besideOf, aboveOf, climbed, putOf, orElse}
 use Rattle.tree.specs.declared.Combined.the-variants as combined
 use Rattle.tree.specs.declared.Put.{Put}
 use Rattle.tree.specs.declared.Put.the-variants as put
-use Rattle.records.proofs.Laws.{never}
+use Rattle.rules.proofs.Laws.{never}
 use Rattle.tree.proofs.Light.{legacy-in}
 
 -- the pair of e and the entry beside it

@@ -11,8 +11,8 @@ use borrow.Author.Tests.{le-ltb}
 use lib.ListN.{take, drop, take-append-drop}
 use lib.Seq.{take-add}
 use lib.Pow.{pow-pos, pow-add, pow-mono}
-use Rattle.records.specs.Limits.{maxBonus}
-use Rattle.records.specs.Refusals.{Checked, good, refused, _>>_, refuse_when_}
+use Rattle.rules.specs.Limits.{maxBonus}
+use Rattle.rules.specs.Refusals.{Checked, good, refused, _>>_, refuse_when_}
 use Rattle.records.specs.Objects.{Object}
 use Rattle.entries.specs.Entry.{none, joined, entryOf, inLimits}
 use Rattle.entries.specs.Words.{entryAt}

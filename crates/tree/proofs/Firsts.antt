@@ -9,8 +9,8 @@ use borrow.Author.Tests.{le-leb, lt-leb, ltb-true, ltb-false}
 use lib.Dec.{leb, ltb}
 use lib.ListN.{length}
 use lib.Pow.{pow-pos}
-use Rattle.records.specs.Limits.{maxObjects}
-use Rattle.records.specs.Refusals.{Checked, good, refused, _>>=_, _>>_, refuse_when_}
+use Rattle.rules.specs.Limits.{maxObjects}
+use Rattle.rules.specs.Refusals.{Checked, good, refused, _>>=_, _>>_, refuse_when_}
 use Rattle.entries.specs.Entry.{none, joined, inLimits, placeWords, entryWords}
 use Rattle.entries.specs.Words.{entryAt}
 use Rattle.entries.specs.declared.entry.Entry.{Entry}
@@ -21,7 +21,7 @@ use Rattle.tree.specs.declared.Prefix.{Prefix}
 use Rattle.tree.specs.declared.Turned.{Turned}
 use Rattle.tree.specs.declared.Turned.the-variants as turned
 use Rattle.tree.proofs.Climbs.{limited-in}
-use Rattle.records.proofs.Laws.{never}
+use Rattle.rules.proofs.Laws.{never}
 
 pub none-in : inLimits none ≡ true
 unfolding inLimits

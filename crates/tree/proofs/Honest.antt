@@ -11,8 +11,8 @@ use native.Mathlib.Decide.{ℕ-discrete}
 use borrow.Author.Tests.{eq-eqb, ne-eqb, lt-ltb, le-ltb, ltb-true, ltb-false}
 use lib.Dec.{ltb}
 use lib.ListN.{length, set}
-use Rattle.records.specs.Limits.{maxBonus}
-use Rattle.records.specs.Refusals.{Checked, good, refused, _>>_, refuse_when_}
+use Rattle.rules.specs.Limits.{maxBonus}
+use Rattle.rules.specs.Refusals.{Checked, good, refused, _>>_, refuse_when_}
 use Rattle.records.specs.Objects.{Object}
 use Rattle.entries.specs.Entry.{joined, inLimits, entryWords}
 use Rattle.entries.specs.Words.{entryAt, putEntry}

@@ -9,8 +9,8 @@ use native.Mathlib.Decide.{decLt}
 use borrow.Author.Tests.{lt-leb, le-ltb}
 use lib.ListN.{length}
 use lib.Pow.{pow-pos, pow-mono, pow-add}
-use Rattle.records.specs.Limits.{maxLevels, maxBonus}
-use Rattle.records.specs.Refusals.{Checked, good, refused, _>>_, refuse_when_}
+use Rattle.rules.specs.Limits.{maxLevels, maxBonus}
+use Rattle.rules.specs.Refusals.{Checked, good, refused, _>>_, refuse_when_}
 use Rattle.entries.specs.Entry.{none, joined, inLimits, SumOf, entryWords, placeWords}
 use Rattle.entries.specs.Words.{entryAt}
 use Rattle.entries.specs.declared.entry.Entry.{Entry}
@@ -18,7 +18,7 @@ use Rattle.entries.proofs.Limits.{word-le, first-most, sum-of-none, sum-of-more
 use Rattle.tree.specs.Limited.{withoutLegacy, limited, afterOf, sumOf, combinedOf}
 use Rattle.tree.specs.First.{walked}
 use Rattle.tree.specs.declared.Combined.the-variants as combined
-use Rattle.records.proofs.Laws.{never}
+use Rattle.rules.proofs.Laws.{never}
 use Rattle.tree.proofs.Firsts.{skips, takes}
 use Rattle.tree.proofs.Light.{light-of}
 use Rattle.tree.proofs.Within.{parts-in}

@@ -5,8 +5,8 @@ use mathlib.Core.List.{List}
 use native.Mathlib.Omega.{arith}
 use lib.ListN.{length, drop}
 use Rattle.entries.specs.Entry.{entryWords}
-use Rattle.records.specs.Refusals.{Checked, good, refused, _>>=_}
-use Rattle.records.proofs.Laws.{never}
+use Rattle.rules.specs.Refusals.{Checked, good, refused, _>>=_}
+use Rattle.rules.proofs.Laws.{never}
 use Rattle.entries.specs.Words.{entryAt, putEntry}
 use Rattle.entries.specs.declared.entry.Entry.{Entry}
 use Rattle.entries.proofs.WordLaws.{put-other, put-length, put-drop}

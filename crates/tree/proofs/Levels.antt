@@ -9,7 +9,7 @@ use native.Mathlib.Numerals.{add-one}
 use lib.Dec.{leb}
 use lib.Pow.{pow-mono}
 use borrow.Author.Tests.{le-leb, lt-leb}
-use Rattle.records.specs.Limits.{maxLevels, maxObjects}
+use Rattle.rules.specs.Limits.{maxLevels, maxObjects}
 use Rattle.tree.specs.Size.{levelsOf, levelsFrom, capOf}
 
 pub below-13 : (l : ℕ) → 2 ^ l < maxObjects → l < maxLevels

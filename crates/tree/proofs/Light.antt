@@ -6,7 +6,7 @@ use mathlib.Core.Bool.{true}
 use mathlib.Core.List.{List}
 use native.Mathlib.Omega.{arith}
 use lib.ListN.{length, getD}
-use Rattle.records.specs.Limits.{maxBonus, maxObjects}
+use Rattle.rules.specs.Limits.{maxBonus, maxObjects}
 use Rattle.records.specs.Objects.{Object, bonus}
 use Rattle.encoding.specs.Limits.{Each, ObjectWithin}
 use Rattle.entries.specs.Entry.{joined, entryOf, wordsOf, limitList, inLimits, entryWords}

@@ -7,7 +7,7 @@ use native.Mathlib.Nat.{div-one, div-div-eq-div-mul, mul-comm, mul-one, pow-suc}
 use native.Mathlib.Decide.{ℕ-discrete}
 use lib.ListN.{length, take, drop, set}
 use Rattle.entries.specs.Entry.{placeWords}
-use Rattle.records.specs.Refusals.{good}
+use Rattle.rules.specs.Refusals.{good}
 use Rattle.records.specs.Objects.{Object}
 use Rattle.entries.specs.Words.{entryAt}
 use Rattle.entries.specs.declared.entry.Entry.{Entry}

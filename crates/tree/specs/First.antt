@@ -3,7 +3,7 @@ use Prim.Native.Nat.{ℕ, zero, suc, _+_, _-_, _*_, _/_, _^_}
 use mathlib.Core.Bool.{Bool, cond}
 use mathlib.Core.List.{List}
 use lib.Dec.{leb, ltb}
-use Rattle.records.specs.Refusals.{Checked, good, refused, _>>=_}
+use Rattle.rules.specs.Refusals.{Checked, good, refused, _>>=_}
 use Rattle.entries.specs.Words.{entryAt}
 use Rattle.entries.specs.declared.entry.Entry.{Entry}
 use Rattle.tree.specs.Limited.{afterOf}

@@ -3,8 +3,8 @@
 use Prim.Native.Nat.{ℕ}
 use mathlib.Core.Bool.{Bool, not}
 use lib.Dec.{ltb}
-use Rattle.records.specs.Limits.{maxBonus}
-use Rattle.records.specs.Refusals.{Checked, good, refused, _>>_, refuse_when_, BONUS, BOARD}
+use Rattle.rules.specs.Limits.{maxBonus}
+use Rattle.rules.specs.Refusals.{Checked, good, refused, _>>_, refuse_when_, BONUS, BOARD}
 use Rattle.entries.specs.Entry.{joined, inLimits}
 use Rattle.entries.specs.declared.entry.Entry.{Entry}
 use Rattle.tree.specs.declared.Combined.{Combined}

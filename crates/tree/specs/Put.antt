@@ -3,7 +3,7 @@ use Prim.Native.Nat.{ℕ, zero, suc, _+_, _-_, _/_, _%_}
 use mathlib.Core.Bool.{Bool, cond, not}
 use mathlib.Core.List.{List}
 use lib.Dec.{eqb}
-use Rattle.records.specs.Refusals.{Checked, good, refused, _>>=_, _>>_, refuse_when_, BOARD}
+use Rattle.rules.specs.Refusals.{Checked, good, refused, _>>=_, _>>_, refuse_when_, BOARD}
 use Rattle.entries.specs.Entry.{joined, inLimits}
 use Rattle.entries.specs.Words.{entryAt, putEntry}
 use Rattle.entries.specs.declared.entry.Entry.{Entry}

@@ -2,7 +2,7 @@
 use Prim.Native.Nat.{ℕ, zero, suc, _^_}
 use mathlib.Core.Bool.{cond}
 use lib.Dec.{leb}
-use Rattle.records.specs.Limits.{maxLevels}
+use Rattle.rules.specs.Limits.{maxLevels}
 
 -- the least l, of at most k more, with n ≤ 2 ^ l
 unfoldable pub levelsFrom : ℕ → ℕ → ℕ → ℕ

@@ -1,6 +1,6 @@
 -- `build` is right since nothing is written before the last check, and then the objects' own entries, their starts and what lies above.
 use borrow.Author.Needs.{needs}
-use Rattle.records.proofs.Laws.{so}
+use Rattle.rules.proofs.Laws.{so}
 use Rattle.board_build.proofs.BuiltRight.{file-refused, no-room, build-lays, build-fills, build-done}
 use Rattle.board_build.proofs.build.Statement.{statement}
 use Rattle.board_build.proofs.build.Tie as tie

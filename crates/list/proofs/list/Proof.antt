@@ -9,8 +9,8 @@ use lib.ListN.{length, length-replicate}
 use lib.Seq.{length-take-le}
 use borrow.Author.Tests.{ltb-true}
 use Rattle.text.proofs.Space.{length-put}
-use Rattle.records.specs.Refusals.{pick}
-use Rattle.records.proofs.Laws.{so, never}
+use Rattle.rules.specs.Refusals.{pick}
+use Rattle.rules.proofs.Laws.{so, never}
 use denote.Ref.{now}
 use Rattle.listing.specs.Listing.{inputText, listedOf}
 use Rattle.listing.specs.declared.Listed.{Listed}

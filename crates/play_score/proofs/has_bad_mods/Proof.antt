@@ -1,7 +1,7 @@
 -- The tests are those of the ranges, the flags first.
 use mathlib.Core.Path.{sym}
 use Rattle.play_score.specs.PlayRules.{modsBad}
-use Rattle.records.proofs.Laws.{so}
+use Rattle.rules.proofs.Laws.{so}
 use borrow.Author.Needs.{needs}
 use Rattle.play_score.proofs.has_bad_mods.Statement.{statement}
 use Rattle.play_score.proofs.has_bad_mods.Tie as tie

@@ -1,7 +1,7 @@
 -- Origin 1 alone has the two tests, in the order of the definition.
 use Rattle.play_score.specs.PlayRules.{hitsExceed}
 use borrow.Author.Tests.{lt-ltb, le-ltb}
-use Rattle.records.proofs.Laws.{so}
+use Rattle.rules.proofs.Laws.{so}
 use borrow.Author.Needs.{needs}
 use Rattle.play_score.proofs.hits_exceed.Statement.{statement}
 use Rattle.play_score.proofs.hits_exceed.Tie as tie

@@ -1,7 +1,7 @@
 -- The three tests of the definition, in its order.
 use Rattle.play_score.specs.PlayRules.{isDue}
 use borrow.Author.Tests.{not-true, not-false}
-use Rattle.records.proofs.Laws.{so}
+use Rattle.rules.proofs.Laws.{so}
 use borrow.Author.Needs.{needs}
 use Rattle.play_score.proofs.is_estimate_due.Statement.{statement}
 use Rattle.play_score.proofs.is_estimate_due.Tie as tie

@@ -1,8 +1,8 @@
 -- 8 is checked first; then the play as it is on the attributes.
 use mathlib.Core.Path.{ap, _∙_}
 use Rattle.play_score.specs.PlayRules.{givenScore, givenOf}
-use Rattle.records.specs.Refusals.{_>>_, refuse_when_}
-use Rattle.records.proofs.Laws.{so}
+use Rattle.rules.specs.Refusals.{_>>_, refuse_when_}
+use Rattle.rules.proofs.Laws.{so}
 use borrow.Author.Needs.{needs}
 use Rattle.play_score.proofs.score_given.Statement.{statement}
 use Rattle.play_score.proofs.score_given.Tie as tie

@@ -1,7 +1,7 @@
 -- Each return is what the definition computes from the checks on the way.
 use Rattle.play_score.specs.PlayRules.{playScore}
-use Rattle.records.specs.Refusals.{_>>=_, _>>_, refuse_when_}
-use Rattle.records.proofs.Laws.{so}
+use Rattle.rules.specs.Refusals.{_>>=_, _>>_, refuse_when_}
+use Rattle.rules.proofs.Laws.{so}
 use borrow.Author.Needs.{needs}
 use Rattle.play_score.proofs.score_on.Statement.{statement}
 use Rattle.play_score.proofs.score_on.Tie as tie

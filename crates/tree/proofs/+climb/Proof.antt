@@ -2,8 +2,8 @@
 use mathlib.Core.Path.{_≡_, refl, sym, ap, _∙_}
 use native.Mathlib.Omega.{arith}
 use borrow.Author.Needs.{needs}
-use Rattle.records.specs.Refusals.{good}
-use Rattle.records.proofs.Laws.{so}
+use Rattle.rules.specs.Refusals.{good}
+use Rattle.rules.proofs.Laws.{so}
 use Rattle.entries.specs.Words.{entryAt}
 use Rattle.tree.specs.Put.{aboveOf, climbed}
 use Rattle.tree.proofs.Climbs.{beside-pair, above-in, told-good, told-refused, at-top, stops, stops-above, goes-on, told-put, told-stop, is-good, is-refused}

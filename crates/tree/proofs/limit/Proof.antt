@@ -1,8 +1,8 @@
 -- The two checks are those of the definition.
 use mathlib.Core.Path.{ap, _∙_}
 use borrow.Author.Tests.{not-true, not-false, lt-ltb, le-ltb}
-use Rattle.records.proofs.Laws.{so}
-use Rattle.records.specs.Refusals.{_>>_, refuse_when_}
+use Rattle.rules.proofs.Laws.{so}
+use Rattle.rules.specs.Refusals.{_>>_, refuse_when_}
 use Rattle.entries.specs.Entry.{inLimits}
 use Rattle.tree.specs.Limited.{limited}
 use borrow.Author.Needs.{needs}

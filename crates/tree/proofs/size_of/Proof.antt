@@ -6,7 +6,7 @@ use native.Mathlib.Nat.{pow-suc, le-of-suc-le-suc}
 use native.Mathlib.Numerals.{add-one}
 use lib.Pow.{pow-mono}
 use borrow.Author.Needs.{needs}
-use Rattle.records.specs.Limits.{maxLevels, maxObjects}
+use Rattle.rules.specs.Limits.{maxLevels, maxObjects}
 use Rattle.tree.specs.Size.{levelsOf, capOf}
 use Rattle.tree.proofs.Levels.{below-13, levels-are}
 use Rattle.tree.proofs.size_of.Statement.{statement}

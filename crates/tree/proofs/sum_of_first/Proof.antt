@@ -2,7 +2,7 @@
 use native.Mathlib.Omega.{arith}
 use borrow.Author.Needs.{needs}
 use denote.Ref.{now}
-use Rattle.records.proofs.Laws.{so}
+use Rattle.rules.proofs.Laws.{so}
 use Rattle.tree.proofs.Firsts.{Walking, walking-start, x-small, x-inside, after-next, after-end, at-last}
 use Rattle.tree.proofs.sum_of_first.Statement.{statement}
 use Rattle.tree.proofs.sum_of_first.Tie as tie

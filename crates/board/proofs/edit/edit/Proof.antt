@@ -6,10 +6,10 @@ use mathlib.Core.List.{List, [], _∷_}
 use native.Mathlib.Omega.{arith}
 use lib.Ieee.{Float}
 use lib.ListN.{length}
-use Rattle.records.specs.Limits.{maxNested}
-use Rattle.records.specs.Refusals.{Checked}
+use Rattle.rules.specs.Limits.{maxNested}
+use Rattle.rules.specs.Refusals.{Checked}
 use Rattle.records.specs.declared.hit_object.HitObject.{HitObject}
-use Rattle.records.proofs.Laws.{so}
+use Rattle.rules.proofs.Laws.{so}
 use Rattle.simulator.specs.Limits.{nestedCount}
 use Rattle.simulator.proofs.Few.{kind-few}
 use Rattle.entries.specs.Entry.{entryOf, inLimits}

@@ -4,7 +4,7 @@ use mathlib.Core.Path.{_≡_, sym, ap, _∙_}
 use native.Mathlib.Omega.{arith}
 use Rattle.numbers.specs.Words.{wordAt}
 use Rattle.records.specs.Records.{objectOf, readOf}
-use Rattle.records.proofs.Laws.{so}
+use Rattle.rules.proofs.Laws.{so}
 use Rattle.board.specs.Edit.{aloneOf}
 use Rattle.board.proofs.Alones as alones
 use mathlib.Core.Path.{sym, ap, _∙_}

@@ -1,6 +1,6 @@
 -- The climb's answer stands, and the start is put behind it.
 use native.Mathlib.Omega.{arith}
-use Rattle.records.proofs.Laws.{so}
+use Rattle.rules.proofs.Laws.{so}
 use Rattle.board.proofs.Puts as puts
 use borrow.Author.Needs.{needs}
 use Rattle.board.proofs.place.put_at.Statement.{statement}

@@ -2,7 +2,7 @@
 use Prim.Native.Nat.{ℕ, _*_}
 use mathlib.Core.Path.{_≡_, refl, sym, ap, ap₂, _∙_, subst}
 use native.Mathlib.Omega.{arith}
-use Rattle.records.proofs.Laws.{so}
+use Rattle.rules.proofs.Laws.{so}
 use Rattle.tree.specs.Size.{levelsOf, capOf}
 use Rattle.board.specs.Place.{roomOf}
 use Rattle.board.specs.declared.place.Room.{Room}

@@ -1,7 +1,7 @@
 -- The drain and the multiplier are those of the definition; the words within the limits leave room in the attributes.
 use mathlib.Core.Path.{_≡_, refl, sym, ap, _∙_, subst}
 use native.Mathlib.Omega.{arith}
-use Rattle.records.specs.Limits.{maxObjects}
+use Rattle.rules.specs.Limits.{maxObjects}
 use Rattle.ruleset.specs.Stars.{multiplierOf}
 use Rattle.ruleset.proofs.Signs.{kept}
 use Rattle.simulator.specs.Limits.{Bounded, Counted}

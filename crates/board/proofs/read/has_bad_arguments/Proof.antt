@@ -1,6 +1,6 @@
 -- The settings, then the breaks, then their count.
 use Rattle.board.specs.Read.{argumentsBad}
-use Rattle.records.proofs.Laws.{so}
+use Rattle.rules.proofs.Laws.{so}
 use borrow.Author.Needs.{needs}
 use Rattle.board.proofs.read.has_bad_arguments.Statement.{statement}
 use Rattle.board.proofs.read.has_bad_arguments.Tie as tie

@@ -2,7 +2,7 @@
 use mathlib.Core.Path.{sym}
 use borrow.Author.Tests.{not-true, not-false}
 use Rattle.board.specs.Read.{settingsBad}
-use Rattle.records.proofs.Laws.{so}
+use Rattle.rules.proofs.Laws.{so}
 use borrow.Author.Needs.{needs}
 use Rattle.board.proofs.read.has_bad_settings.Statement.{statement}
 use Rattle.board.proofs.read.has_bad_settings.Tie as tie

@@ -6,7 +6,7 @@ use native.Mathlib.Omega.{arith}
 use borrow.Author.Tests.{not-true, not-false}
 use lib.ListN.{length, drop}
 use borrow.Author.Needs.{needs}
-use Rattle.records.proofs.Laws.{so}
+use Rattle.rules.proofs.Laws.{so}
 use Rattle.board.specs.Read.{timesBad}
 use Rattle.board.proofs.Times.{times-at, times-end}
 use Rattle.board.proofs.read.has_bad_times.Statement.{statement}

@@ -1,7 +1,7 @@
 -- Each return is a step of the definition.
 use mathlib.Core.Path.{_≡_, refl, sym, ap, _∙_, subst}
 use native.Mathlib.Omega.{arith}
-use Rattle.records.proofs.Laws.{so}
+use Rattle.rules.proofs.Laws.{so}
 use Rattle.play_score.specs.PlayRules.{givenAnswer}
 use Rattle.board.proofs.Rooms as rooms
 use Rattle.board.proofs.Readings as readings

@@ -3,9 +3,9 @@ use mathlib.Core.Path.{_≡_, refl, sym, ap, _∙_, subst}
 use native.Mathlib.Omega.{arith}
 use Prim.Native.Nat.{ℕ, _+_, _*_, _≤_, _^_}
 use lib.Pow.{pow-mono}
-use Rattle.records.specs.Limits.{maxLevels, maxObjects}
-use Rattle.records.proofs.Laws.{so}
-use Rattle.records.specs.Refusals.{good, refused}
+use Rattle.rules.specs.Limits.{maxLevels, maxObjects}
+use Rattle.rules.proofs.Laws.{so}
+use Rattle.rules.specs.Refusals.{good, refused}
 use Rattle.entries.specs.Entry.{none}
 use Rattle.tree.specs.Size.{levelsOf, capOf}
 use Rattle.tree.specs.First.{walked}

@@ -3,8 +3,8 @@ use mathlib.Core.Path.{sym, ap, _∙_}
 use native.Mathlib.Omega.{arith}
 use borrow.Author.Tests.{eq-eqb, ne-eqb, not-true, not-false}
 use lib.Ieee.{ofBits, ofInt, round}
-use Rattle.records.specs.Refusals.{_>>=_, _>>_, refuse_when_}
-use Rattle.records.proofs.Laws.{so}
+use Rattle.rules.specs.Refusals.{_>>=_, _>>_, refuse_when_}
+use Rattle.rules.proofs.Laws.{so}
 use Rattle.board.specs.Search.{startsIn}
 use borrow.Author.Needs.{needs}
 use Rattle.board.proofs.search.find_starts.Statement.{statement}

@@ -1,7 +1,7 @@
 -- The branches are those of the definition, operation by operation.
 use Rattle.estimates.specs.ComboBased.{comboBasedOf}
 use borrow.Author.Tests.{eq-eqb, ne-eqb}
-use Rattle.records.proofs.Laws.{so}
+use Rattle.rules.proofs.Laws.{so}
 use borrow.Author.Needs.{needs}
 use Rattle.estimates.proofs.calculator.calculate_combo_based_estimated_miss_count.Statement.{
   statement,

@@ -1,7 +1,7 @@
 -- Absent with slider accuracy; else the calculator's answer.
 use Rattle.estimates.specs.Effective.{scoreBasedFor}
 use borrow.Author.Tests.{not-true, not-false}
-use Rattle.records.proofs.Laws.{so}
+use Rattle.rules.proofs.Laws.{so}
 use borrow.Author.Needs.{needs}
 use Rattle.estimates.proofs.calculator.score_based.Statement.{statement}
 use Rattle.estimates.proofs.calculator.score_based.Tie as tie

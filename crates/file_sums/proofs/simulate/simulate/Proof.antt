@@ -5,7 +5,7 @@ use native.Mathlib.Omega.{arith}
 use denote.Ref.{now}
 use borrow.Author.Needs.{needs}
 use lib.ListN.{length}
-use Rattle.records.proofs.Laws.{so}
+use Rattle.rules.proofs.Laws.{so}
 use Rattle.file_sums.specs.declared.simulate.Simulated.the-variants.{Map}
 use Rattle.file_sums.proofs.Summing.{Summing, summing-start, summing-room, summing-step, summing-ahead, summing-stop, end-none, end-complete, end-map}
 use Rattle.file_sums.proofs.Running.{summing-steps, summing-ready}

@@ -5,7 +5,7 @@ use native.Mathlib.Omega.{arith}
 use denote.Ref.{now}
 use borrow.Author.Needs.{needs}
 use borrow.Author.Tests.{not-false}
-use Rattle.records.specs.Limits.{maxObjects}
+use Rattle.rules.specs.Limits.{maxObjects}
 use Rattle.file_sums.specs.Runs.{none, TakesNext}
 use Rattle.simulator.proofs.Bounds.{within-more, counted-more}
 use Rattle.file_sums.proofs.Running.{Running, running-start, running-counts, running-step, behind}

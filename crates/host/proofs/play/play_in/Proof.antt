@@ -1,5 +1,5 @@
 -- Each return is the case of the definition that the origin and the score are in.
-use Rattle.records.proofs.Laws.{so}
+use Rattle.rules.proofs.Laws.{so}
 use borrow.Author.Needs.{needs}
 use Rattle.host.proofs.play.play_in.Statement.{statement}
 use Rattle.host.proofs.play.play_in.Tie as tie

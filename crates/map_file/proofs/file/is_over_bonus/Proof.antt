@@ -2,8 +2,8 @@
 use Prim.Native.Nat.{_+_, _<_}
 use native.Mathlib.Omega.{arith}
 use borrow.Author.Tests.{lt-ltb}
-use Rattle.records.specs.Limits.{maxBonus}
-use Rattle.records.proofs.Laws.{over-is}
+use Rattle.rules.specs.Limits.{maxBonus}
+use Rattle.rules.proofs.Laws.{over-is}
 use Rattle.map_file.proofs.file.is_over_bonus.Statement.{statement}
 use Rattle.map_file.proofs.file.is_over_bonus.Tie as tie
 

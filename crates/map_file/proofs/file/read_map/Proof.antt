@@ -7,7 +7,7 @@ use denote.Ref.{now}
 use borrow.Author.Needs.{needs}
 use Rattle.map_file.specs.File.{fresh}
 use Rattle.map_file.specs.View.{answerOf}
-use Rattle.records.proofs.Laws.{so}
+use Rattle.rules.proofs.Laws.{so}
 use Rattle.map_file.proofs.Reading.{Reading, kept-start, kept-step, kept-stop, end-none, end-map}
 use borrow.Author.Tests.{eq-eqb, ne-eqb}
 use Rattle.map_file.proofs.file.read_map.Statement.{statement}

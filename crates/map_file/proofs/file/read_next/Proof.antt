@@ -2,9 +2,9 @@
 use denote.Ref.{now}
 use mathlib.Core.Path.{sym}
 use borrow.Author.Tests.{lt-ltb, le-ltb, not-true, not-false}
-use Rattle.records.specs.Refusals.{_>>=_, _>>_, refuse_when_}
+use Rattle.rules.specs.Refusals.{_>>=_, _>>_, refuse_when_}
 use Rattle.map_file.specs.Order.{recordOf, bodyOf}
-use Rattle.records.proofs.Laws.{so}
+use Rattle.rules.proofs.Laws.{so}
 use Rattle.map_file.proofs.Bodies.{held-refused, held-over, held-good}
 use borrow.Author.Needs.{needs}
 use Rattle.map_file.proofs.file.read_next.Statement.{statement}

@@ -5,10 +5,10 @@ use Prim.Native.Nat.{ℕ, _+_, _≤_, _<_}
 use native.Mathlib.Omega.{arith}
 use lib.ListN.{length, drop, length-drop, drop-of-length-le}
 use denote.Ref.{now}
-use Rattle.records.specs.Refusals.{_>>=_, _>>_, refuse_when_}
+use Rattle.rules.specs.Refusals.{_>>=_, _>>_, refuse_when_}
 use Rattle.records.specs.Records.{readOf}
 use Rattle.map_file.specs.Order.{recordOf}
-use Rattle.records.proofs.Laws.{so}
+use Rattle.rules.proofs.Laws.{so}
 use Rattle.map_file.proofs.Sizes.{record-sized}
 use Rattle.map_file.proofs.Room.{record-fits}
 use Rattle.map_file.proofs.Steps.{rest-is, read-size, read-fits, read-next, read-refused}

@@ -1,6 +1,6 @@
 -- The field is the float of the word at its place, held to the range.
 use mathlib.Core.Path.{sym}
-use Rattle.records.proofs.Laws.{so}
+use Rattle.rules.proofs.Laws.{so}
 use borrow.Author.Needs.{needs}
 use Rattle.records.proofs.fields.setting_at.Statement.{statement}
 use Rattle.records.proofs.fields.setting_at.Tie as tie

@@ -7,9 +7,9 @@ use Rattle.records.specs.declared.hit_object.Nested.the-variants.{Counts
 use Rattle.records.proofs.Nested.{refused-list, read-list, part-is}
 use mathlib.Core.Path.{_≡_, sym, ap, _∙_}
 use borrow.Author.Tests.{lt-ltb, le-ltb}
-use Rattle.records.specs.Refusals.{_>>=_, _>>_, refuse_when_}
+use Rattle.rules.specs.Refusals.{_>>=_, _>>_, refuse_when_}
 use Rattle.records.specs.Records.{sliderOf, nestedOf, nestedView}
-use Rattle.records.proofs.Laws.{so}
+use Rattle.rules.proofs.Laws.{so}
 use borrow.Author.Needs.{needs}
 use Rattle.records.proofs.hit_object.read_slider.Statement.{statement}
 use Rattle.records.proofs.hit_object.read_slider.Tie as tie

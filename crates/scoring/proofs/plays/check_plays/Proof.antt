@@ -5,7 +5,7 @@ use native.Mathlib.Omega.{arith}
 use denote.Ref.{now}
 use borrow.Author.Needs.{needs}
 use lib.ListN.{length}
-use Rattle.records.proofs.Laws.{so}
+use Rattle.rules.proofs.Laws.{so}
 use Rattle.simulator.specs.declared.attributes.ScoreAttributes.{ScoreAttributes}
 use Rattle.scoring.specs.declared.plays.Plays.the-variants as answer
 use Rattle.scoring.proofs.Playing.{Playing, playing-start, playing-next, playing-on, playing-stop, playing-none, playing-end, played-complete}

@@ -2,7 +2,7 @@
 use Rattle.scoring.proofs.Answers.{in-refused, in-map}
 use denote.Ref.{now}
 use Rattle.map_file.specs.File.{fileOf}
-use Rattle.records.proofs.Laws.{so}
+use Rattle.rules.proofs.Laws.{so}
 use borrow.Author.Needs.{needs}
 use Rattle.scoring.proofs.plays.score_in.Statement.{statement}
 use Rattle.scoring.proofs.plays.score_in.Tie as tie

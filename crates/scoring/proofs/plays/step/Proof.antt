@@ -1,5 +1,5 @@
 -- One record is read, its play scored and its object added to the sums.
-use Rattle.records.proofs.Laws.{so}
+use Rattle.rules.proofs.Laws.{so}
 use Rattle.scoring.proofs.Playing.{reached-inside, reached-scorable, reached-room}
 use borrow.Author.Needs.{needs}
 use Rattle.scoring.proofs.plays.step.Statement.{statement}

@@ -1,7 +1,7 @@
 -- All objects of a map are passed by the largest number.
 use denote.Ref.{now}
 use Rattle.map_file.specs.File.{fileOf}
-use Rattle.records.proofs.Laws.{so}
+use Rattle.rules.proofs.Laws.{so}
 use Rattle.scoring.specs.Scores.{scoresOf}
 use Rattle.scoring.proofs.Answers.{map-refused, map-scored}
 use borrow.Author.Needs.{needs}

@@ -2,7 +2,7 @@
 use denote.Ref.{now}
 use mathlib.Core.Path.{refl}
 use Rattle.map_file.specs.File.{fileOf}
-use Rattle.records.proofs.Laws.{so}
+use Rattle.rules.proofs.Laws.{so}
 use Rattle.scoring.specs.Scores.{scoresOf}
 use Rattle.scoring.proofs.Answers.{play-refused, play-scored}
 use borrow.Author.Needs.{needs}

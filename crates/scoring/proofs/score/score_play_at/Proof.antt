@@ -1,7 +1,7 @@
 -- The loop over the plays gives the one at the index.
 use denote.Ref.{now}
 use Rattle.map_file.specs.File.{fileOf}
-use Rattle.records.proofs.Laws.{so}
+use Rattle.rules.proofs.Laws.{so}
 use Rattle.scoring.specs.Scores.{scoresOf}
 use Rattle.scoring.proofs.Answers.{listed-refused, listed-none, listed-scored}
 use borrow.Author.Needs.{needs}

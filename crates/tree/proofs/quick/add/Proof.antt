@@ -2,8 +2,8 @@
 use mathlib.Core.Path.{ap, _∙_}
 use borrow.Author.Tests.{not-true, not-false}
 use denote.Ref.{now}
-use Rattle.records.proofs.Laws.{so}
-use Rattle.records.specs.Refusals.{_>>_, refuse_when_}
+use Rattle.rules.proofs.Laws.{so}
+use Rattle.rules.specs.Refusals.{_>>_, refuse_when_}
 use Rattle.entries.specs.Entry.{joined, inLimits}
 use Rattle.entries.specs.declared.entry.Entry.{Entry}
 use Rattle.tree.specs.Limited.{sumOf}

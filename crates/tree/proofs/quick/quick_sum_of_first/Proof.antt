@@ -3,7 +3,7 @@ use Prim.Native.Nat.{_+_, _-_}
 use native.Mathlib.Omega.{arith}
 use borrow.Author.Needs.{needs}
 use denote.Ref.{now}
-use Rattle.records.proofs.Laws.{so}
+use Rattle.rules.proofs.Laws.{so}
 use Rattle.tree.proofs.Jumps.{Summing, summing-start, summing-next, summed, sums-fit, inside}
 use Rattle.tree.proofs.quick.quick_sum_of_first.Statement.{statement}
 use Rattle.tree.proofs.quick.quick_sum_of_first.Tie as tie

@@ -1,7 +1,7 @@
 -- The kind decides.
 use mathlib.Core.Path.{subst}
 use Prim.Native.Nat.{_≤_}
-use Rattle.records.specs.Limits.{maxNested}
+use Rattle.rules.specs.Limits.{maxNested}
 use Rattle.records.specs.declared.hit_object.HitObjectKind.{HitObjectKind}
 use Rattle.simulator.specs.Limits.{nestedCount}
 use borrow.Author.Needs.{needs}

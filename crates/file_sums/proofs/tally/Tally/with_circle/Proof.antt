@@ -3,7 +3,7 @@ use Rattle.records.specs.declared.hit_object.HitObjectKind.the-variants.{Circle
 use native.Mathlib.Omega.{arith}
 use denote.Ref.{now}
 use Rattle.records.specs.Records.{CI, objectOf}
-use Rattle.records.proofs.Laws.{so}
+use Rattle.rules.proofs.Laws.{so}
 use Rattle.file_sums.proofs.Tallies.{read-within, took}
 use borrow.Author.Needs.{needs}
 use Rattle.file_sums.proofs.tally.Tally.with_circle.Statement.{statement}

@@ -2,7 +2,7 @@
 use mathlib.Core.Path.{subst}
 use Prim.Native.Nat.{_≤_}
 use native.Mathlib.Omega.{arith}
-use Rattle.records.specs.Limits.{maxNested}
+use Rattle.rules.specs.Limits.{maxNested}
 use Rattle.records.specs.declared.hit_object.HitObjectKind.{HitObjectKind}
 use Rattle.simulator.specs.Limits.{nestedCount}
 use Rattle.simulator.specs.Nested.{counted}

@@ -1,7 +1,7 @@
 -- Each arm is the step of its kind.
 use mathlib.Core.Path.{sym, ap, subst, _∙_}
 use Prim.Native.Nat.{_≤_}
-use Rattle.records.specs.Limits.{maxNested}
+use Rattle.rules.specs.Limits.{maxNested}
 use Rattle.records.specs.declared.hit_object.HitObjectKind.{HitObjectKind}
 use Rattle.simulator.specs.Limits.{nestedCount}
 use Rattle.simulator.specs.View.{kindOf}

@@ -1,7 +1,7 @@
 -- The branches are those of the definition.
 use borrow.Author.Tests.{eq-eqb, ne-eqb}
-use Rattle.records.proofs.play.score_of.Statement.{statement}
-use Rattle.records.proofs.play.score_of.Tie as tie
+use Rattle.play_state.proofs.score_of.Statement.{statement}
+use Rattle.play_state.proofs.score_of.Tie as tie
 
 returns : tie.Need-returns
 returns c = simp (eq-eqb _ _ (c .if1 .taken))

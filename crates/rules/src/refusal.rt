@@ -1,4 +1,4 @@
-// The numbers of document 01's rules; records/specs/Refusals says when each is given.
+// The numbers of document 01's rules; rules/specs/Refusals says when each is given.
 pub const INPUT: u8 = 1;
 
 pub const CUT: u8 = 2;

@@ -1,14 +1,7 @@
-// A play and its record.
-use crate::fields;
-use crate::fields::Double;
-use crate::record::Read;
-use crate::record::Record;
-use crate::refusal;
-use numbers::words::word_at;
+// A play: its hits, origin, score and modifiers.
 ghost use mathlib.Core.Path.{_≡_};
 ghost use Prim.Native.Nat.{_<_};
-ghost use Rattle.records.specs.Play.{originOf, scoreOf, flagAt, flagsBad, hitresultsOf};
-ghost use Rattle.records.specs.Records.{readOf, playOf};
+ghost use Rattle.play_state.specs.Play.{originOf, scoreOf, flagAt, flagsBad};
 
 pub struct OsuHitResults {
     pub large_tick_hits: u32,
@@ -160,50 +153,4 @@ pub fn score_of(present: u64, score: u32) -> Score
         }
     }
     Score::Bad
-}
-
-fn hitresults_of(r: &[u8]) -> OsuHitResults
-    ensures { λ x. ⌜ x ≡ hitresultsOf (now (r .entry)) ⌝ }
-{
-    OsuHitResults {
-        large_tick_hits: word_at(r, 16, 4) as u32,
-        small_tick_hits: word_at(r, 20, 4) as u32,
-        slider_end_hits: word_at(r, 24, 4) as u32,
-        n300: word_at(r, 8, 2) as u16,
-        n100: word_at(r, 10, 2) as u16,
-        n50: word_at(r, 12, 2) as u16,
-        misses: word_at(r, 14, 2) as u16,
-    }
-}
-
-pub fn read_play(r: &[u8]) -> Read
-    ensures { λ x. ⌜ x ≡ readOf (playOf (now (r .entry))) ⌝ }
-{
-    if r.len() < Play::SIZE {
-        return Read::Refused(refusal::CUT);
-    }
-    let Origin::Is(origin) = origin_of(word_at(r, 28, 1)) else {
-        return Read::Refused(refusal::PLAY_FIELD);
-    };
-    let Score::Is(legacy_total_score) = score_of(word_at(r, 29, 1), word_at(r, 30, 4) as u32) else {
-        return Read::Refused(refusal::PLAY_FIELD);
-    };
-    let flags = word_at(r, 34, 2) as u16;
-    if has_unknown_flags(flags) {
-        return Read::Refused(refusal::PLAY_FIELD);
-    }
-    let Double::Is(clock_rate) = fields::rate_at(r, 36) else {
-        return Read::Refused(refusal::PLAY_FIELD);
-    };
-    Read::Good(
-        Record::Play(Play {
-            passed_objects: word_at(r, 2, 2) as u16,
-            max_combo: word_at(r, 4, 4) as u32,
-            hitresults: hitresults_of(r),
-            origin,
-            legacy_total_score,
-            mods: GameMods { flags, clock_rate },
-        }),
-        Play::SIZE,
-    )
 }

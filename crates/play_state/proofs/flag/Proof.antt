@@ -3,10 +3,10 @@ use mathlib.Core.Path.{ap}
 use Prim.Native.Nat.{ℕ, _/_, _^_}
 use lib.Dec.{eqb}
 use lib.Bits.{and-mask}
-use Rattle.records.specs.Play.{flagAt}
+use Rattle.play_state.specs.Play.{flagAt}
 use borrow.Author.Needs.{needs}
-use Rattle.records.proofs.play.flag.Statement.{statement}
-use Rattle.records.proofs.play.flag.Tie as tie
+use Rattle.play_state.proofs.flag.Statement.{statement}
+use Rattle.play_state.proofs.flag.Tie as tie
 
 shr-result : tie.Need-shr-result
 shr-result c = search needs

@@ -1,8 +1,8 @@
 -- Each field is the word at its place.
-use Rattle.records.specs.Play.{hitresultsOf}
+use Rattle.play_state.specs.Play.{hitresultsOf}
 use borrow.Author.Needs.{needs}
-use Rattle.records.proofs.play.hitresults_of.Statement.{statement}
-use Rattle.records.proofs.play.hitresults_of.Tie as tie
+use Rattle.records.proofs.play_record.hitresults_of.Statement.{statement}
+use Rattle.records.proofs.play_record.hitresults_of.Tie as tie
 
 word-at-requires : tie.Need-word-at-requires
 word-at-requires c κs = search needs

@@ -4,16 +4,16 @@ use mathlib.Core.Bool.{Bool, not}
 use mathlib.Core.List.{List}
 use lib.Dec.{eqb}
 use Rattle.numbers.specs.Words.{wordAt}
-use Rattle.records.specs.Refusals.{Checked, good, refused, pick, PLAY-FIELD}
-use Rattle.records.specs.declared.play.OsuHitResults.{OsuHitResults}
-use Rattle.records.specs.declared.play.OsuScoreOrigin.{OsuScoreOrigin}
-use Rattle.records.specs.declared.play.OsuScoreOrigin.the-variants.{Stable, WithSliderAcc, WithoutSliderAcc}
-use Rattle.records.specs.declared.play.LegacyTotalScore.{LegacyTotalScore}
-use Rattle.records.specs.declared.play.LegacyTotalScore.the-variants.{Absent, Present}
-use Rattle.records.specs.declared.play.Origin.{Origin}
-use Rattle.records.specs.declared.play.Origin.the-variants as origin
-use Rattle.records.specs.declared.play.Score.{Score}
-use Rattle.records.specs.declared.play.Score.the-variants as score
+use Rattle.rules.specs.Refusals.{Checked, good, refused, pick, PLAY-FIELD}
+use Rattle.play_state.specs.declared.OsuHitResults.{OsuHitResults}
+use Rattle.play_state.specs.declared.OsuScoreOrigin.{OsuScoreOrigin}
+use Rattle.play_state.specs.declared.OsuScoreOrigin.the-variants.{Stable, WithSliderAcc, WithoutSliderAcc}
+use Rattle.play_state.specs.declared.LegacyTotalScore.{LegacyTotalScore}
+use Rattle.play_state.specs.declared.LegacyTotalScore.the-variants.{Absent, Present}
+use Rattle.play_state.specs.declared.Origin.{Origin}
+use Rattle.play_state.specs.declared.Origin.the-variants as origin
+use Rattle.play_state.specs.declared.Score.{Score}
+use Rattle.play_state.specs.declared.Score.the-variants as score
 
 -- "origin u8 (0 Stable, 1 WithSliderAcc, 2 WithoutSliderAcc)"
 abbrev pub originOf : ℕ → Origin

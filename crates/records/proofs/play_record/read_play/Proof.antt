@@ -1,12 +1,12 @@
 -- Each return is what the definition computes from the tests and fields on the way.
 use mathlib.Core.Path.{sym}
 use borrow.Author.Tests.{lt-ltb, le-ltb}
-use Rattle.records.specs.Refusals.{_>>=_, _>>_, refuse_when_}
+use Rattle.rules.specs.Refusals.{_>>=_, _>>_, refuse_when_}
 use Rattle.records.specs.Records.{playOf}
-use Rattle.records.proofs.Laws.{so}
+use Rattle.rules.proofs.Laws.{so}
 use borrow.Author.Needs.{needs}
-use Rattle.records.proofs.play.read_play.Statement.{statement}
-use Rattle.records.proofs.play.read_play.Tie as tie
+use Rattle.records.proofs.play_record.read_play.Statement.{statement}
+use Rattle.records.proofs.play_record.read_play.Tie as tie
 
 returns : tie.Need-returns
 unfolding playOf _>>=_ _>>_ refuse_when_

@@ -1,8 +1,8 @@
 -- A shift by nine places is a division by 2 ^ 9.
 use mathlib.Core.Path.{refl}
-use Rattle.records.specs.Play.{flagsBad}
-use Rattle.records.proofs.play.has_unknown_flags.Statement.{statement}
-use Rattle.records.proofs.play.has_unknown_flags.Tie as tie
+use Rattle.play_state.specs.Play.{flagsBad}
+use Rattle.play_state.proofs.has_unknown_flags.Statement.{statement}
+use Rattle.play_state.proofs.has_unknown_flags.Tie as tie
 
 returns : tie.Need-returns
 unfolding flagsBad

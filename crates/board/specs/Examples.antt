@@ -253,9 +253,10 @@ reads =
     ∷ (one (1 ∷ 1 ∷ 2 ∷ 0 ∷ 390 ∷ 0 ∷ 0 ∷ 0 ∷ 1 ∷ 0 ∷ 0 ∷ 0 ∷ 0 ∷ []), starts 1, 1, fine, [], play 1 1, 13)
     ∷ (one (set oneCircle 3 0), starts 1, 1, fine, [], play 1 1, 13)
     -- 13: the start of the first object, also where none is passed; then no entry is read
-    ∷ (one oneCircle, badStart, 1, fine, [], play 1 1, 13)
     ∷ (one oneCircle, badStart, 1, fine, [], play 0 0, 13)
     ∷ (one (objects 8193 0), starts 1, 1, fine, [], play 0 0, 0)
+    ∷ (one oneCircle, badStart, 1, fine, [], play 1 1, 13)
+    ∷ (four none none none, badStart ++ starts 2, 3, fine, [], play 2 0, 13)
     -- and of the last passed one, no other
     ∷ (four none none none, starts 1 ++ badStart ++ starts 1, 3, fine, [], play 1 0, 0)
     ∷ (four none none none, starts 1 ++ badStart ++ starts 1, 3, fine, [], play 2 0, 13)

@@ -1,5 +1,5 @@
--- What follows from the claim and from the calls' definitions: one edit leads between neighbouring maps, an edit touches little, and a board that a
--- map has gets no 13.
+-- What follows from the calls' definitions: a build of an accepted map is done, one edit leads between neighbouring maps, an edit touches little, and
+-- a board that a map has gets no 13.
 use Prim.Native.Nat.{ℕ, zero, suc, _+_, _*_, _/_, _^_, _≤_, _<_}
 use mathlib.Core.Path.{_≡_, refl, sym, ap, ap₂, _∙_, subst}
 use mathlib.Core.Logic.{_≢_}
@@ -12,15 +12,17 @@ use lib.Dec.{eqb, ltb, leb}
 use lib.Ieee.{Float, nan}
 use lib.ListN.{length, drop, getD, set, length-append, length-set}
 use lib.Seq.{getD-set-other}
+use Rattle.board_build.specs.Build.{buildOf, built}
+use Rattle.scoring.specs.Scores.{Outcome, Scores, scoresOf}
 use Rattle.numbers.specs.Words.{wordAt}
 use Rattle.rules.specs.Refusals.{Checked, good, refused, _>>=_, _>>_, refuse_when_}
 use Rattle.records.specs.Objects.{Object, Kind, circle, slider, spinner}
 use Rattle.records.specs.Records.{Content, header, break, object, play, objectOf}
-use Rattle.map_file.specs.File.{Map}
+use Rattle.map_file.specs.File.{Map, fileOf}
 use Rattle.records.specs.declared.beatmap.Settings.{Settings}
 use Rattle.play_state.specs.declared.Play.{Play}
 use Rattle.rules.proofs.Laws.{never}
-use Rattle.encoding.specs.Encoding.{fieldsOf, circleFields, sliderFields, spinnerFields, nestedBytes, kindBytes, objectBytes}
+use Rattle.encoding.specs.Encoding.{fieldsOf, circleFields, sliderFields, spinnerFields, nestedBytes, kindBytes, objectBytes, mapFile}
 use Rattle.encoding.specs.Limits.{Each, none, one, ObjectWithin, MapWithin}
 use Rattle.encoding.proofs.FieldBytes.{fields-length}
 use Rattle.encoding.proofs.RoundTrip.{object-back}
@@ -29,11 +31,11 @@ use Rattle.simulator.specs.declared.attributes.ScoreAttributes.{ScoreAttributes
 use Rattle.play_score.specs.PlayRules.{modsBad, playScore, givenAnswer, givenScore}
 use Rattle.play_score.specs.declared.PlayScore.{PlayScore}
 use Rattle.play_score.specs.declared.GivenPlay.the-variants as given
-use Rattle.entries.specs.Entry.{entryOf}
+use Rattle.entries.specs.Entry.{entryOf, placeWords}
 use Rattle.entries.specs.Words.{entryAt}
 use Rattle.tree.specs.Size.{levelsOf, capOf}
 use Rattle.tree.specs.Put.{climbed}
-use Rattle.tree.specs.Board.{Covers}
+use Rattle.tree.specs.Board.{Covers, boardOf, startsOf}
 use Rattle.tree.proofs.Levels.{levels-hold}
 use Rattle.tree.proofs.Touched.{OthersKept, only-covering, few-cover}
 use Rattle.board.specs.Place.{roomFor, putAt, writtenLeft}
@@ -44,7 +46,7 @@ use Rattle.board.proofs.Binds.{bound, passed}
 use Rattle.board.proofs.Rooms as rooms
 use Rattle.demands.specs.Calls.{isAccepted, changed, timesOf, Lent, lentFor, Call, edit, read, Answer, edits, reads, answer, lentAfter, putIfAccepted, mapAfter, recordAnswer, editAnswer}
 use Rattle.scoring.proofs.Rules.{IsRule, Ruled, fine, rule, ruled-bind, ruled-when, ruled-object, ruled-score-of, two, three, eight}
-use Rattle.demands.proofs.Maps.{within-accepted}
+use Rattle.demands.proofs.Maps.{within-accepted, within-scored}
 use Rattle.demands.proofs.EditRight.{edit-right}
 use Rattle.demands.proofs.ReadRight.{read-right}
 
@@ -89,7 +91,7 @@ one-edit-leads m place o words numbers w h w′ = record { done = ap (λ (z : Z)
     Z = Written × List ℕ × List Float
 
     left : Written → Map → Z
-    left a x = (a, Rattle.tree.specs.Board.boardOf (x .objects) ++ words, Rattle.tree.specs.Board.startsOf (x .objects) ++ numbers)
+    left a x = (a, boardOf (x .objects) ++ words, startsOf (x .objects) ++ numbers)
 
     right : writtenLeft (editOf (lentFor m words numbers .board) (lentFor m words numbers .starts) (length (m .objects)) place (objectBytes o)) (lentFor m words numbers .board) (lentFor m words numbers .starts)
         ≡ left written.Done (changed m place o)
@@ -179,3 +181,17 @@ never-13-read m words numbers p w e =
     go : (x : Checked PlayScore) → Ruled x → reads (givenAnswer x) ≢ reads (given.Refused 13 0)
     go (refused n) (rule is) h = let s : n ≡ 13 = cc in absurd (omega (arith, s, is .1))
     go (good s) k h = never (cc)
+
+-- ---- a build of an accepted map
+-- a map within the limits, with room for it, is built: the call is done and leaves the map's board and start table, with what lies beyond them as it
+-- was. So the claim's premise, a build that is done, is met for every accepted map
+pub build-is-done : (m : Map) → MapWithin m → (b : List ℕ) (ts : List Float) → placeWords * capOf (length (m .objects)) ≤ length b
+    → length (m .objects) ≤ length ts
+    → built (scoresOf (fileOf (mapFile m))) b ts
+    ≡ (written.Done, boardOf (m .objects) ++ drop (placeWords * capOf (length (m .objects))) b, startsOf (m .objects) ++ drop (length (m .objects)) ts)
+unfolding buildOf _>>_
+build-is-done m w b ts words numbers =
+    let n = length (m .objects) in
+    ap (λ (x : Outcome Scores). built x b ts) (within-scored m w)
+    ∙ ap (λ (x : Checked (Unit {0})). writtenLeft (x >> good (boardOf (m .objects) ++ drop (placeWords * capOf n) b, startsOf (m .objects) ++ drop n ts)) b ts)
+    (rooms.roomy b ts n (w .few-objects) words numbers)

@@ -6,6 +6,7 @@ use mathlib.Core.List.{List, [], _∷_, _++_, append-nil}
 use Prim.Native.Nat.{ℕ}
 use native.Mathlib.Omega.{arith}
 use lib.ListN.{length}
+use Rattle.demands.proofs.Maps.{within-scored}
 use Rattle.rules.specs.Refusals.{Checked, good, refused, _>>_, refuse_when_}
 use Rattle.map_file.specs.File.{Map, File, Result, accepted, refusedAt, fileOf}
 use Rattle.play_state.specs.declared.Play.{Play}
@@ -42,20 +43,8 @@ refused-by-a-rule = refusal-rule
 pub accepted-keeps-the-rules : (s : List ℕ) (sc : Scores) → scoresOf (fileOf s) ≡ values sc → MapWithin (sc .map)
 accepted-keeps-the-rules s sc e = let k = no-number s sc e in subst MapWithin (sym (k .map)) (accepted-within s (k .file) (k .read))
 
-no-plays : (l : List (ℕ × Play)) → bare l ≡ [] → l ≡ []
-unfolding bare
-no-plays [] e = refl
-no-plays (p ∷ ps) e = never (cc)
-
 pub keeping-the-rules-is-accepted : (m : Map) → MapWithin m → scoresOf (fileOf (mapFile m)) ≡ values (record { map = m; plays = [] })
-unfolding playScores each
-keeping-the-rules-is-accepted m w =
-    let k = round-trip m [] w none in
-    let file : fileOf (mapFile m) ≡ accepted (k .file) = ap fileOf (sym (append-nil (mapFile m))) ∙ k .read in
-    let plays : k .file .plays ≡ [] = no-plays (k .file .plays) (k .plays-back) in
-    ap scoresOf file
-    ∙ ap (λ (l : List (ℕ × Play)). then (playScores (k .file .map) l) (λ ss. values (record { map = k .file .map; plays = ss }))) plays
-    ∙ ap (λ (x : Map). values (record { map = x; plays = [] })) (k .map-back)
+keeping-the-rules-is-accepted = within-scored
 
 -- ---- Demand 2
 -- "For every accepted map, passed count and play all attributes and estimates have the Rust's values": those of `scoreAttributesAt` and

@@ -4,4 +4,6 @@ pub mod SoundWords
 pub mod ReadRight
 pub mod CallsRight
 pub mod Boards
+pub mod Lists
+pub mod ListUse
 pub mod Demands

@@ -11,11 +11,14 @@ use lib.ListN.{length, set, length-set}
 use Rattle.rules.specs.Limits.{maxObjects, maxBonus}
 use Rattle.records.specs.Objects.{Object, bonus, kindBonus}
 use Rattle.map_file.specs.File.{Map, accepted, fileOf}
+use Rattle.play_state.specs.declared.Play.{Play}
+use Rattle.rules.proofs.Laws.{never}
+use Rattle.scoring.specs.Scores.{values, then, playScores, scoresOf}
 use Rattle.map_file.proofs.Reading.{length-snoc, bonus-snoc}
 use Rattle.encoding.specs.Encoding.{headerBytes, breakBytes, objectBytes, each, mapFile}
 use Rattle.encoding.specs.Limits.{Each, none, one, ObjectWithin, MapWithin}
 use Rattle.encoding.proofs.Accepted.{each-snoc}
-use Rattle.encoding.proofs.RoundTrip.{round-trip, over-bonus}
+use Rattle.encoding.proofs.RoundTrip.{round-trip, over-bonus, bare}
 use Rattle.tree.proofs.Changed.{each-set}
 use Rattle.demands.specs.Calls.{getsNone, isAccepted, changed}
 
@@ -25,6 +28,22 @@ unfolding isAccepted each
 within-accepted m w =
     let k = round-trip m [] w none in
     ap getsNone (ap fileOf (sym (append-nil (mapFile m))) ∙ k .read)
+
+-- its file gets no number, and is read back as the map
+no-plays : (l : List (ℕ × Play)) → bare l ≡ [] → l ≡ []
+unfolding bare
+no-plays [] e = refl
+no-plays (p ∷ ps) e = never (cc)
+
+pub within-scored : (m : Map) → MapWithin m → scoresOf (fileOf (mapFile m)) ≡ values (record { map = m; plays = [] })
+unfolding playScores each
+within-scored m w =
+    let k = round-trip m [] w none in
+    let file : fileOf (mapFile m) ≡ accepted (k .file) = ap fileOf (sym (append-nil (mapFile m))) ∙ k .read in
+    let plays : k .file .plays ≡ [] = no-plays (k .file .plays) (k .plays-back) in
+    ap scoresOf file
+    ∙ ap (λ (l : List (ℕ × Play)). then (playScores (k .file .map) l) (λ ss. values (record { map = k .file .map; plays = ss }))) plays
+    ∙ ap (λ (x : Map). values (record { map = x; plays = [] })) (k .map-back)
 
 -- ---- one whose bonus is too high is not
 abbrev withObjects : Map → List Object → Map

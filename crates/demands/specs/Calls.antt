@@ -101,6 +101,15 @@ unfoldable pub mapAfter : Call → Map → Map
 mapAfter (edit n place r) m = cond (eqb n (length (m .objects)) && ltb place n) (putIfAccepted m place (objectIn r)) m
 mapAfter (read n s br p) m = m
 
+-- ---- what a whole list does: "the map as the list left it"
+abbrev pub mapAfterAll : List Call → Map → Map
+mapAfterAll [] m = m
+mapAfterAll (c ∷ cs) m = mapAfterAll cs (mapAfter c m)
+
+abbrev pub lentAfterAll : List Call → Lent → Lent
+lentAfterAll [] l = l
+lentAfterAll (c ∷ cs) l = lentAfterAll cs (lentAfter c l)
+
 -- ---- the right answers
 -- "every other edit is refused": with 12, with the number of its record's first wrong, or with 7
 abbrev pub recordAnswer : Map → ℕ → Checked Object → Written

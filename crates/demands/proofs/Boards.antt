@@ -44,9 +44,9 @@ use Rattle.board.specs.declared.place.Written.{Written}
 use Rattle.board.specs.declared.place.Written.the-variants as written
 use Rattle.board.proofs.Binds.{bound, passed}
 use Rattle.board.proofs.Rooms as rooms
-use Rattle.demands.specs.Calls.{isAccepted, changed, timesOf, Lent, lentFor, Call, edit, read, Answer, edits, reads, answer, lentAfter, putIfAccepted, mapAfter, recordAnswer, editAnswer}
+use Rattle.demands.specs.Calls.{isAccepted, changed, timesOf, Lent, lentFor, Call, edit, read, Answer, edits, reads, answer, lentAfter, putIfAccepted, mapAfter, recordAnswer, editAnswer, AcceptedMap}
 use Rattle.scoring.proofs.Rules.{IsRule, Ruled, fine, rule, ruled-bind, ruled-when, ruled-object, ruled-score-of, two, three, eight}
-use Rattle.demands.proofs.Maps.{within-accepted, within-scored}
+use Rattle.demands.proofs.Maps.{within-accepted, within-scored, accepted-is-within}
 use Rattle.demands.proofs.EditRight.{edit-right}
 use Rattle.demands.proofs.ReadRight.{read-right}
 
@@ -82,11 +82,14 @@ pub record Leads (m : Map) (place : ℕ) (o : Object) (words : List ℕ) (number
   pub done : answer (edit (length (m .objects)) place (objectBytes o)) (lentFor m words numbers) ≡ edits written.Done
   pub there : lentAfter (edit (length (m .objects)) place (objectBytes o)) (lentFor m words numbers) ≡ lentFor (changed m place o) words numbers
 
-pub one-edit-leads : (m : Map) (place : ℕ) (o : Object) (words : List ℕ) (numbers : List Float) → MapWithin m → place < length (m .objects)
-    → MapWithin (changed m place o) → Leads m place o words numbers
+pub one-edit-leads : (m : Map) (place : ℕ) (o : Object) (words : List ℕ) (numbers : List Float) → AcceptedMap m → place < length (m .objects)
+    → AcceptedMap (changed m place o) → Leads m place o words numbers
 unfolding answer lentAfter
-one-edit-leads m place o words numbers w h w′ = record { done = ap (λ (z : Z). edits (z .0)) right; there = ap (λ (z : Z). record { board = z .1; starts = z .2 }) right }
+one-edit-leads m place o words numbers a h a′ = record { done = ap (λ (z : Z). edits (z .0)) right; there = ap (λ (z : Z). record { board = z .1; starts = z .2 }) right }
   where
+    w′ : MapWithin (changed m place o)
+    w′ = accepted-is-within (changed m place o) a′
+
     Z : Type 0
     Z = Written × List ℕ × List Float
 
@@ -96,7 +99,7 @@ one-edit-leads m place o words numbers w h w′ = record { done = ap (λ (z : Z)
     right : writtenLeft (editOf (lentFor m words numbers .board) (lentFor m words numbers .starts) (length (m .objects)) place (objectBytes o)) (lentFor m words numbers .board) (lentFor m words numbers .starts)
         ≡ left written.Done (changed m place o)
     right =
-        edit-right m w words numbers place (objectBytes o)
+        edit-right m (accepted-is-within m a) words numbers place (objectBytes o)
         ∙ ap₂ (λ (t : Bool) (x : Checked Object). left (cond t (recordAnswer m place x) (written.Refused 12 0)) (cond t (putIfAccepted m place x) m))
         (lt-ltb place (length (m .objects)) h) (own-record o (object-at (m .objects) place o h (w′ .objects)))
         ∙ ap (λ (a : Bool). left (cond a written.Done (written.Refused 7 0)) (cond a (changed m place o) m)) (within-accepted (changed m place o) w′)
@@ -152,11 +155,11 @@ record-ruled r =
     only (object o) = fine
     only (play p) = rule three
 
-pub never-13-edit : (m : Map) (words : List ℕ) (numbers : List Float) (place : ℕ) (r : List ℕ) → MapWithin m
+pub never-13-edit : (m : Map) (words : List ℕ) (numbers : List Float) (place : ℕ) (r : List ℕ) → AcceptedMap m
     → answer (edit (length (m .objects)) place r) (lentFor m words numbers) ≢ edits (written.Refused 13 0)
 unfolding answer
-never-13-edit m words numbers place r w e =
-    go (ltb place (length (m .objects))) (objectIn r) (record-ruled r) (sym (ap (λ (z : Written × List ℕ × List Float). edits (z .0)) (edit-right m w words numbers place r)) ∙ e)
+never-13-edit m words numbers place r a e =
+    go (ltb place (length (m .objects))) (objectIn r) (record-ruled r) (sym (ap (λ (z : Written × List ℕ × List Float). edits (z .0)) (edit-right m (accepted-is-within m a) words numbers place r)) ∙ e)
   where
     accepts : (t : Bool) → edits (cond t written.Done (written.Refused 7 0)) ≢ edits (written.Refused 13 0)
     accepts true h = never (cc)
@@ -171,27 +174,28 @@ score-ruled : (p : Play) (a : ScoreAttributes) → Ruled (givenScore p a)
 unfolding givenScore
 score-ruled p a = ruled-when 8 _ _ eight (ruled-score-of p a)
 
-pub never-13-read : (m : Map) (words : List ℕ) (numbers : List Float) (p : Play) → MapWithin m
+pub never-13-read : (m : Map) (words : List ℕ) (numbers : List Float) (p : Play) → AcceptedMap m
     → answer (read (length (m .objects)) (m .settings) (timesOf (m .breaks)) p) (lentFor m words numbers) ≢ reads (given.Refused 13 0)
 unfolding answer
-never-13-read m words numbers p w e =
+never-13-read m words numbers p a e =
     go (givenScore p (scoreAttributesAt m (p .«passed_objects»))) (score-ruled p (scoreAttributesAt m (p .«passed_objects»)))
-    (sym (ap (λ (x : Checked PlayScore). reads (givenAnswer x)) (read-right m words numbers p w)) ∙ e)
+    (sym (ap (λ (x : Checked PlayScore). reads (givenAnswer x)) (read-right m words numbers p (accepted-is-within m a))) ∙ e)
   where
     go : (x : Checked PlayScore) → Ruled x → reads (givenAnswer x) ≢ reads (given.Refused 13 0)
     go (refused n) (rule is) h = let s : n ≡ 13 = cc in absurd (omega (arith, s, is .1))
     go (good s) k h = never (cc)
 
 -- ---- a build of an accepted map
--- a map within the limits, with room for it, is built: the call is done and leaves the map's board and start table, with what lies beyond them as it
+-- an accepted map, with room for it, is built: the call is done and leaves the map's board and start table, with what lies beyond them as it
 -- was. So the claim's premise, a build that is done, is met for every accepted map
-pub build-is-done : (m : Map) → MapWithin m → (b : List ℕ) (ts : List Float) → placeWords * capOf (length (m .objects)) ≤ length b
+pub build-is-done : (m : Map) → AcceptedMap m → (b : List ℕ) (ts : List Float) → placeWords * capOf (length (m .objects)) ≤ length b
     → length (m .objects) ≤ length ts
     → built (scoresOf (fileOf (mapFile m))) b ts
     ≡ (written.Done, boardOf (m .objects) ++ drop (placeWords * capOf (length (m .objects))) b, startsOf (m .objects) ++ drop (length (m .objects)) ts)
 unfolding buildOf _>>_
-build-is-done m w b ts words numbers =
+build-is-done m a b ts words numbers =
     let n = length (m .objects) in
+    let w = accepted-is-within m a in
     ap (λ (x : Outcome Scores). built x b ts) (within-scored m w)
     ∙ ap (λ (x : Checked (Unit {0})). writtenLeft (x >> good (boardOf (m .objects) ++ drop (placeWords * capOf n) b, startsOf (m .objects) ++ drop n ts)) b ts)
     (rooms.roomy b ts n (w .few-objects) words numbers)

@@ -2,7 +2,7 @@
 use Prim.Native.Nat.{ℕ, _*_, _≤_, _<_}
 use mathlib.Core.Path.{_≡_, refl, sym, ap, ap₂, _∙_, subst}
 use mathlib.Core.Logic.{_⊎_, inl, inr}
-use mathlib.Core.Bool.{Bool, true, false, cond, _&&_}
+use mathlib.Core.Bool.{Bool, true, false, not, cond, _&&_}
 use mathlib.Core.List.{List, [], _∷_, _++_}
 use native.Mathlib.Decide.{ℕ-discrete}
 use native.Mathlib.Omega.{arith}
@@ -35,24 +35,32 @@ use Rattle.board.specs.Read.{readOf}
 use Rattle.board.specs.declared.place.Written.{Written}
 use Rattle.board.specs.declared.place.Written.the-variants as written
 use Rattle.board.proofs.Edits as edits
-use Rattle.demands.specs.Calls.{isAccepted, changed, timesOf, mapIn, Lent, lentFor, Call, edit, read, Answer, edits as answered, reads, answer, lentAfter, putIfAccepted, mapAfter, editAnswer, fromFile, ReadAnswer, IsRefused, Stands, MayStand, Answers, Right, lentBy, Claim}
-use Rattle.demands.proofs.Maps.{within-accepted, changed-within, by-bonus}
+use Rattle.demands.specs.Calls.{isAccepted, AcceptedMap, changed, timesOf, mapIn, Lent, lentFor, Call, edit, read, Answer, edits as answered, reads, answer, lentAfter, putIfAccepted, mapAfter, editAnswer, fromFile, ReadAnswer, IsRefused, Stands, MayStand, Answers, Right, lentBy, Claim}
+use Rattle.demands.proofs.Maps.{accepted-is-within, within-is-accepted, changed-within, by-bonus}
 use Rattle.demands.proofs.EditRight.{edit-right}
 use Rattle.demands.proofs.ReadRight.{read-right}
 
 -- ---- the map stays within the limits
+low-bonus : (m : Map) → MapWithin m → (place : ℕ) (o : Object) → ObjectWithin o → isAccepted (changed m place o) ≡ true → bonus (set (m .objects) place o) ≤ maxBonus
+low-bonus m w place o v e = by (ltb maxBonus (bonus (set (m .objects) place o))) refl (sym (by-bonus m w place o v) ∙ e)
+  where
+    by : (t : Bool) → ltb maxBonus (bonus (set (m .objects) place o)) ≡ t → not t ≡ true → bonus (set (m .objects) place o) ≤ maxBonus
+    by true q h = never (cc)
+    by false q h = ltb-false maxBonus (bonus (set (m .objects) place o)) q
+
+-- a changed map whose file gets no number is accepted: its file is read as that map
+pub edit-accepts : (m : Map) → AcceptedMap m → (place : ℕ) (r : List ℕ) (o : Object) → objectIn r ≡ good o → isAccepted (changed m place o) ≡ true
+    → AcceptedMap (changed m place o)
+edit-accepts m a place r o e t =
+    let w = accepted-is-within m a in
+    let v = edits.alone-within r o e in
+    within-is-accepted (changed m place o) (changed-within m w place o v (low-bonus m w place o v t))
+
 put-within : (m : Map) → MapWithin m → (place : ℕ) (r : List ℕ) → MapWithin (putIfAccepted m place (objectIn r))
 put-within m w place r = go (objectIn r) refl
   where
-    low : (o : Object) → ObjectWithin o → isAccepted (changed m place o) ≡ true → bonus (set (m .objects) place o) ≤ maxBonus
-    low o v e = by (ltb maxBonus (bonus (set (m .objects) place o))) refl (sym (by-bonus m w place o v) ∙ e)
-      where
-        by : (t : Bool) → ltb maxBonus (bonus (set (m .objects) place o)) ≡ t → mathlib.Core.Bool.not t ≡ true → bonus (set (m .objects) place o) ≤ maxBonus
-        by true q h = never (cc)
-        by false q h = ltb-false maxBonus (bonus (set (m .objects) place o)) q
-
     pick : (o : Object) → ObjectWithin o → (t : Bool) → isAccepted (changed m place o) ≡ t → MapWithin (cond t (changed m place o) m)
-    pick o v true e = changed-within m w place o v (low o v e)
+    pick o v true e = changed-within m w place o v (low-bonus m w place o v e)
     pick o v false e = w
 
     go : (x : Checked Object) → objectIn r ≡ x → MapWithin (putIfAccepted m place x)
@@ -142,7 +150,7 @@ module _ (words : List ℕ) (numbers : List Float) where
 
   -- a list of calls on the board of a map within the limits
   pub list-right : (cs : List Call) (m : Map) → MapWithin m → MayStand cs m (lentFor m words numbers) → Right words numbers cs m (lentFor m words numbers)
-  list-right [] m w _ = (within-accepted m w, refl)
+  list-right [] m w _ = (within-is-accepted m w, refl)
   list-right (c ∷ cs) m w stand =
       let s = call-steps c m w (stand .0) in (
         s .0,

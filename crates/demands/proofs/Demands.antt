@@ -1,13 +1,21 @@
 -- The demands on the engine: the counterpart of docs/DEMANDS.md, which says which contracts the theorems are about. Each theorem stands
 -- under the sentence that it answers. `fileOf` and `scoresOf` are what the contracts of the public calls say of the bytes that they are given.
 use mathlib.Core.Path.{_≡_, refl, sym, ap, _∙_, subst}
+use mathlib.Core.Logic.{_≢_}
 use mathlib.Core.Bool.{Bool, true, false}
 use mathlib.Core.List.{List, [], _∷_, _++_, append-nil}
-use Prim.Native.Nat.{ℕ}
+use Prim.Native.Nat.{ℕ, _*_, _≤_, _<_}
 use native.Mathlib.Omega.{arith}
-use lib.ListN.{length}
-use Rattle.demands.proofs.Maps.{within-scored}
-use Rattle.rules.specs.Refusals.{Checked, good, refused, _>>_, refuse_when_}
+use lib.Ieee.{Float}
+use lib.ListN.{length, drop}
+use Rattle.board_build.specs.Build.{built}
+use Rattle.board.specs.Edit.{objectIn, editOf}
+use Rattle.tree.specs.Board.{boardOf, startsOf}
+use Rattle.tree.specs.Size.{capOf}
+use Rattle.entries.specs.Entry.{placeWords}
+use Rattle.records.specs.Objects.{Object}
+use Rattle.demands.proofs.Maps.{within-scored, accepted-is-within, within-is-accepted, accepted-gets-none}
+use Rattle.rules.specs.Refusals.{Checked, good, refused, _>>_, refuse_when_, BOARD}
 use Rattle.map_file.specs.File.{Map, File, Result, accepted, refusedAt, fileOf}
 use Rattle.play_state.specs.declared.Play.{Play}
 use Rattle.encoding.specs.Limits.{MapWithin, Each, none}
@@ -21,12 +29,17 @@ use Rattle.play_score.specs.PlayRules.{exceeds, overCombo, playScore}
 use Rattle.scoring.specs.Scores.{Outcome, refusal, values, at-offset, then, Scores, playScoreOn, playScores, scoresOf}
 use Rattle.play_score.specs.declared.PlayScore.{PlayScore}
 use Rattle.scoring.proofs.Answers.{no-number}
+use Rattle.board.specs.declared.place.Written.the-variants as written
+use Rattle.play_score.specs.declared.GivenPlay.the-variants as given
 use Rattle.listing.specs.Listing.{inputText, listedOf}
 use Rattle.listing.specs.declared.Listed.the-variants as listed
-use Rattle.demands.specs.Calls.{Claim}
+use Rattle.demands.specs.Calls.{isAccepted, AcceptedMap, changed, timesOf, mapIn, lentFor, lentBy, Call, edit, read, edits, reads, answer, mapAfterAll, lentAfterAll, MayStand, Claim}
 use Rattle.scoring.proofs.Rules.{IsRule, refusal-rule}
 use Rattle.listing.proofs.Fits.{listing-told}
-use Rattle.demands.proofs.CallsRight.{calls-right}
+use Rattle.demands.proofs.CallsRight.{edit-accepts, calls-right}
+use Rattle.demands.proofs.Boards.{Leads, Touches, build-is-done}
+use Rattle.demands.proofs.Boards as boards
+use Rattle.demands.proofs.Lists.{left-by-a-list}
 use Rattle.rules.proofs.Laws.{never}
 
 -- ---- Demand 1
@@ -92,7 +105,58 @@ values-are-the-definition's s sc e =
     record { file = k .file; read = k .read; map = k .map; plays = scored-all (k .file .map) (k .file .plays) (sc .plays) (k .plays) }
 
 -- ---- Demand 3
--- "One claim over every admitted LIST of edits and reads, refused calls included": document 01, "Lists of calls", as demands/specs/Calls states it.
--- What follows from it by name stands in proofs/Boards.
+-- "For every list of edits and reads that document 01 admits, refused calls included, on a board and start table built from an accepted map": the
+-- claim, as demands/specs/Calls states it, with every answer in its place
 pub every-list-of-calls : Claim
 every-list-of-calls = calls-right
+
+-- ".. built from an accepted map": a build of one with room for it is done
+pub every-accepted-map-is-built : (m : Map) → AcceptedMap m → (b : List ℕ) (ts : List Float) → placeWords * capOf (length (m .objects)) ≤ length b
+    → length (m .objects) ≤ length ts
+    → built (scoresOf (fileOf (mapFile m))) b ts
+    ≡ (written.Done, boardOf (m .objects) ++ drop (placeWords * capOf (length (m .objects))) b, startsOf (m .objects) ++ drop (length (m .objects)) ts)
+every-accepted-map-is-built = build-is-done
+
+-- the accepted maps are those within the limits
+pub accepted-maps-are-within : (m : Map) → AcceptedMap m → MapWithin m
+accepted-maps-are-within = accepted-is-within
+
+pub maps-within-are-accepted : (m : Map) → MapWithin m → AcceptedMap m
+maps-within-are-accepted = within-is-accepted
+
+-- "after it the board is, entry for entry, and the start table, number for number, that of the map as the list has left it"
+pub left-by-every-list : (s : List ℕ) (b : List ℕ) (ts : List Float) (cs : List Call)
+    → built (scoresOf (fileOf s)) b ts .0 ≡ written.Done
+    → MayStand cs (mapIn (fileOf s)) (lentBy s b ts)
+    → AcceptedMap (mapAfterAll cs (mapIn (fileOf s)))
+    × (lentAfterAll cs (lentBy s b ts)
+    ≡ lentFor (mapAfterAll cs (mapIn (fileOf s))) (drop (placeWords * capOf (length (mapIn (fileOf s) .objects))) b) (drop (length (mapIn (fileOf s) .objects)) ts))
+left-by-every-list = left-by-a-list
+
+-- "An edit .. puts the object there exactly when document 01 accepts the map so changed": `editAnswer` goes by `isAccepted`, which for a changed map is
+-- `AcceptedMap`
+pub changed-map-accepted : (m : Map) → AcceptedMap m → (place : ℕ) (r : List ℕ) (o : Object) → objectIn r ≡ good o → isAccepted (changed m place o) ≡ true
+    → AcceptedMap (changed m place o)
+changed-map-accepted = edit-accepts
+
+pub accepted-map-gets-no-number : (m : Map) → AcceptedMap m → isAccepted m ≡ true
+accepted-map-gets-no-number = accepted-gets-none
+
+-- "so between two accepted maps of equal length, settings and breaks whose objects differ in one place only, one edit leads from the board of the
+-- first to that of the second"
+pub one-edit-leads : (m : Map) (place : ℕ) (o : Object) (words : List ℕ) (numbers : List Float) → AcceptedMap m → place < length (m .objects)
+    → AcceptedMap (changed m place o) → Leads m place o words numbers
+one-edit-leads = boards.one-edit-leads
+
+-- "An edit may change only the entries that cover its place, at most 14, and its start time": on any lent memory
+pub edit-touches-only : (b : List ℕ) (ts : List Float) (n place : ℕ) (r : List ℕ) (w : List ℕ × List Float) → editOf b ts n place r ≡ good w → Touches n place b ts w
+edit-touches-only = boards.edit-touches-only
+
+-- no call on the board of an accepted map, with the map's count, settings and breaks, gets 13
+pub never-13-edit : (m : Map) (words : List ℕ) (numbers : List Float) (place : ℕ) (r : List ℕ) → AcceptedMap m
+    → answer (edit (length (m .objects)) place r) (lentFor m words numbers) ≢ edits (written.Refused BOARD 0)
+never-13-edit = boards.never-13-edit
+
+pub never-13-read : (m : Map) (words : List ℕ) (numbers : List Float) (p : Play) → AcceptedMap m
+    → answer (read (length (m .objects)) (m .settings) (timesOf (m .breaks)) p) (lentFor m words numbers) ≢ reads (given.Refused BOARD 0)
+never-13-read = boards.never-13-read

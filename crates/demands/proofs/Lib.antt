@@ -1,4 +1,5 @@
 pub mod Maps
+mod OddMap
 pub mod EditRight
 pub mod SoundWords
 pub mod ReadRight

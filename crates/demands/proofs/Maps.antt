@@ -17,10 +17,10 @@ use Rattle.scoring.specs.Scores.{values, then, playScores, scoresOf}
 use Rattle.map_file.proofs.Reading.{length-snoc, bonus-snoc}
 use Rattle.encoding.specs.Encoding.{headerBytes, breakBytes, objectBytes, each, mapFile}
 use Rattle.encoding.specs.Limits.{Each, none, one, ObjectWithin, MapWithin}
-use Rattle.encoding.proofs.Accepted.{each-snoc}
+use Rattle.encoding.proofs.Accepted.{each-snoc, accepted-within}
 use Rattle.encoding.proofs.RoundTrip.{round-trip, over-bonus, bare}
 use Rattle.tree.proofs.Changed.{each-set}
-use Rattle.demands.specs.Calls.{getsNone, isAccepted, changed}
+use Rattle.demands.specs.Calls.{getsNone, isAccepted, AcceptedMap, changed}
 
 -- ---- a map within the limits is accepted
 pub within-accepted : (m : Map) → MapWithin m → isAccepted m ≡ true
@@ -28,6 +28,20 @@ unfolding isAccepted each
 within-accepted m w =
     let k = round-trip m [] w none in
     ap getsNone (ap fileOf (sym (append-nil (mapFile m))) ∙ k .read)
+
+-- ---- the accepted maps are those within the limits
+pub within-is-accepted : (m : Map) → MapWithin m → AcceptedMap m
+unfolding each
+within-is-accepted m w =
+    let k = round-trip m [] w none in record { file = k .file; read = ap fileOf (sym (append-nil (mapFile m))) ∙ k .read; back = k .map-back }
+
+-- the file of an accepted map gets no number
+pub accepted-gets-none : (m : Map) → AcceptedMap m → isAccepted m ≡ true
+unfolding isAccepted
+accepted-gets-none m a = ap getsNone (a .read)
+
+pub accepted-is-within : (m : Map) → AcceptedMap m → MapWithin m
+accepted-is-within m a = subst MapWithin (a .back) (accepted-within (mapFile m) (a .file) (a .read))
 
 -- its file gets no number, and is read back as the map
 no-plays : (l : List (ℕ × Play)) → bare l ≡ [] → l ≡ []

@@ -40,6 +40,13 @@ getsNone (refusedAt n at f) = false
 unfoldable pub isAccepted : Map → Bool
 isAccepted m = getsNone (fileOf (mapFile m))
 
+-- .. and is read as that map. A map as a value may hold what no file holds, such as a setting that is no float of 32 bits; its file is then that of
+-- another map (proofs/OddMap)
+pub record AcceptedMap (m : Map) : Type 0 where
+  pub file : File
+  pub read : fileOf (mapFile m) ≡ accepted file
+  pub back : file .map ≡ m
+
 -- the map with another object at a place
 abbrev pub changed : Map → ℕ → Object → Map
 changed m place o = record { settings = m .settings; breaks = m .breaks; objects = set (m .objects) place o }
@@ -160,7 +167,7 @@ Answers (read n s br p) m l =
 -- every call answers right on the map as the calls before it left it, and at last the board and the start table are those of the map as the list
 -- left it, with what lay beyond them as it was
 abbrev pub Right : List ℕ → List Float → List Call → Map → Lent → Type 0
-Right words numbers [] m l = (isAccepted m ≡ true) × (l ≡ lentFor m words numbers)
+Right words numbers [] m l = AcceptedMap m × (l ≡ lentFor m words numbers)
 Right words numbers (c ∷ cs) m l = Answers c m l × Right words numbers cs (mapAfter c m) (lentAfter c l)
 
 -- what a build leaves

@@ -139,6 +139,7 @@ pub fn read(
     play: Play,
 ) -> GivenPlay
     ensures { λ r. ⌜ r ≡ givenAnswer (readOf (now (board .entry)) (now (starts .entry)) count settings (now (breaks .entry)) play) ⌝ }
+    ensures { λ _. ⌜ (now (board .exit) ≡ now (board .entry)) × (now (starts .exit) ≡ now (starts .entry)) × (now (breaks .exit) ≡ now (breaks .entry)) ⌝ }
 {
     if MAX_BREAK_TIMES < breaks.len() {
         return GivenPlay::Refused {

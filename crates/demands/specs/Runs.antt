@@ -2,6 +2,7 @@
 use mathlib.Core.Path.{_≡_, refl}
 use mathlib.Core.List.{List, [], _∷_, _++_, map}
 use Prim.Native.Nat.{ℕ, _+_, _*_}
+use native.Mathlib.Omega.{arith}
 use lib.IntN.{ℤ, pos}
 use lib.ListN.{length}
 use lib.Ieee.{binary64, add, sub, mul, div, neg, lt, isNan, ofInt, toBits, toUnsigned}
@@ -13,7 +14,7 @@ use Rattle.map_file.specs.File.{Map}
 use Rattle.ruleset.specs.Drain.{breaksLength, drainAt}
 use Rattle.ruleset.specs.Stars.{ratioOf, starsOf, multiplierAt}
 use Rattle.simulator.specs.Hits.{halfSpins, hitsOf}
-use Rattle.simulator.specs.Walk.{walk, after}
+use Rattle.simulator.specs.Walk.{fresh, walk, after}
 use Rattle.simulator.specs.Nested.{spinnerScoreOf, counted, countedAll, nestedScoreOf}
 use Rattle.simulator.specs.Attributes.{bonusRatioOf, legacyAttributesOf, difficultyAttributesOf, scoreAttributesOf, scoreAttributesAt}
 use Rattle.miss_calc.specs.ScoreBased.{comboProductOf, comboPerObjectOf}
@@ -121,3 +122,8 @@ worked r =
 right : map worked table ≡ map (λ (r : Run). r .says) table
 unfolding table total entryOf levelsFrom levelsOf covered entryIn boardEntry multiplierAt drainAt breaksLength starsOf ratioOf clampOf roundTiesEvenI32 totalHalfSpins requiredHalfSpins halfSpins hitsOf walk after spinnerScoreOf counted countedAll repeats ticks nestedScoreOf bonusRatioOf legacyAttributesOf difficultyAttributesOf scoreAttributesOf scoreAttributesAt comboProductOf comboPerObjectOf maxOf add sub mul div lt isNan neg ofInt toBits toUnsigned
 right = refl
+
+-- (4) "combo points 120 × multiplier", whatever the multiplier
+run-4 : (k : ℕ) → after k fresh mixed .«combo_score» ≡ 120 * k
+unfolding after walk hitsOf
+run-4 k = omega arith

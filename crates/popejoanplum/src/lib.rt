@@ -114,6 +114,7 @@ pub extern "C" fn pjp_read(
     play: HostPlay,
 ) -> PlayAnswer
     ensures { λ r. ⌜ r ≡ givenAnswerOf (givenAnswer (readOf (now (board .entry)) (now (starts .entry)) count (settingsIn settings) (now (breaks .entry)) (playIn play))) ⌝ }
+    ensures { λ _. ⌜ (now (board .exit) ≡ now (board .entry)) × (now (starts .exit) ≡ now (starts .entry)) × (now (breaks .exit) ≡ now (breaks .entry)) ⌝ }
 {
     given_answer_of(read(
         board,

@@ -1,4 +1,5 @@
 -- What the call answers for the settings and the play that crossed.
+use mathlib.Core.Path.{refl}
 use borrow.Author.Needs.{needs}
 use Rattle.popejoanplum.proofs.pjp_read.Statement.{statement}
 use Rattle.popejoanplum.proofs.pjp_read.Tie as tie
@@ -18,12 +19,14 @@ given-answer-of-requires c κs = search needs
 returns : tie.Need-returns
 returns c =
     let read = c .before in
-    let played = read .before in
-    simp (
-      c .given-answer-of .ensures,
-      read .read .ensures,
-      played .play-in .ensures,
-      played .before .settings-in .ensures,
+    let played = read .before in (
+      simp (
+        c .given-answer-of .ensures,
+        read .read .ensures .0,
+        played .play-in .ensures,
+        played .before .settings-in .ensures,
+      ),
+      (refl, refl, refl),
     )
 
 pub pjp-read-spec : {M : Type 1} → statement M

@@ -1,4 +1,4 @@
--- Each return is a step of the definition.
+-- Each return is a step of the definition, and nothing is written.
 use mathlib.Core.Path.{_≡_, refl, sym, ap, _∙_, subst}
 use native.Mathlib.Omega.{arith}
 use Rattle.rules.proofs.Laws.{so}
@@ -13,7 +13,7 @@ returns : tie.Need-returns
 returns c =
     let at1 = c .before .before .before .before in
     let a = at1 .args in
-    sym (ap givenAnswer (readings.many-breaks (a .board .now) (a .starts .now) (a .count) (a .settings) (a .breaks .now) (a .play) (c .if1 .taken)))
+    (sym (ap givenAnswer (readings.many-breaks (a .board .now) (a .starts .now) (a .count) (a .settings) (a .breaks .now) (a .play) (c .if1 .taken))), (refl, refl, refl))
 
 room-for-requires : tie.Need-room-for-requires
 room-for-requires c κs = search needs
@@ -35,7 +35,7 @@ returns-2 c =
     let at4 = at3 .before .before .before .before in
     let a = at4 .args in
     let room = rooms.told-is (a .board .now) (a .starts .now) (a .count) _ (so (at1 .size .given .1) (at2 .room-for .ensures)) in
-    sym (ap givenAnswer (readings.bad-arguments (a .board .now) (a .starts .now) (a .count) (a .settings) (a .breaks .now) (a .play) (at3 .if1 .left) (room .0) (so (c .before .has-bad-arguments .ensures) (c .if2 .taken))))
+    (sym (ap givenAnswer (readings.bad-arguments (a .board .now) (a .starts .now) (a .count) (a .settings) (a .breaks .now) (a .play) (at3 .if1 .left) (room .0) (so (c .before .has-bad-arguments .ensures) (c .if2 .taken)))), (refl, refl, refl))
 
 has-bad-mods-requires : tie.Need-has-bad-mods-requires
 has-bad-mods-requires c κs = search needs
@@ -50,7 +50,7 @@ returns-3 c =
     let at6 = at5 .before .before .before .before in
     let a = at6 .args in
     let room = rooms.told-is (a .board .now) (a .starts .now) (a .count) _ (so (at3 .size .given .1) (at4 .room-for .ensures)) in
-    sym (ap givenAnswer (readings.bad-mods (a .board .now) (a .starts .now) (a .count) (a .settings) (a .breaks .now) (a .play) (at5 .if1 .left) (room .0) (so (at2 .has-bad-arguments .ensures) (at1 .if2 .left)) (so (c .before .has-bad-mods .ensures) (c .if3 .taken))))
+    (sym (ap givenAnswer (readings.bad-mods (a .board .now) (a .starts .now) (a .count) (a .settings) (a .breaks .now) (a .play) (at5 .if1 .left) (room .0) (so (at2 .has-bad-arguments .ensures) (at1 .if2 .left)) (so (c .before .has-bad-mods .ensures) (c .if3 .taken)))), (refl, refl, refl))
 
 read-in-requires : tie.Need-read-in-requires
 read-in-requires c κs =
@@ -70,7 +70,7 @@ returns-4 c =
     let at2 = at1 .before in
     let at3 = at2 .before .before .before .before in
     let a = at3 .args in
-    sym (ap givenAnswer (readings.no-room (a .board .now) (a .starts .now) (a .count) (a .settings) (a .breaks .now) (a .play) (at2 .if1 .left) _ (rooms.told-refused (a .board .now) (a .starts .now) (a .count) _ (so (c .before .number .given .1) (at1 .room-for .ensures)))))
+    (sym (ap givenAnswer (readings.no-room (a .board .now) (a .starts .now) (a .count) (a .settings) (a .breaks .now) (a .play) (at2 .if1 .left) _ (rooms.told-refused (a .board .now) (a .starts .now) (a .count) _ (so (c .before .number .given .1) (at1 .room-for .ensures))))), (refl, refl, refl))
 
 returns-5 : tie.Need-returns-5
 returns-5 c =
@@ -83,7 +83,7 @@ returns-5 c =
     let at7 = at6 .before .before .before .before in
     let a = at7 .args in
     let room = rooms.told-is (a .board .now) (a .starts .now) (a .count) _ (so (at4 .size .given .1) (at5 .room-for .ensures)) in
-    c .read-in .ensures ∙ sym (ap givenAnswer (readings.reads (a .board .now) (a .starts .now) (a .count) (a .settings) (a .breaks .now) (a .play) (at6 .if1 .left) (room .0) (so (at3 .has-bad-arguments .ensures) (at2 .if2 .left)) (so (at1 .has-bad-mods .ensures) (c .before .if3 .left))))
+    (c .read-in .ensures ∙ sym (ap givenAnswer (readings.reads (a .board .now) (a .starts .now) (a .count) (a .settings) (a .breaks .now) (a .play) (at6 .if1 .left) (room .0) (so (at3 .has-bad-arguments .ensures) (at2 .if2 .left)) (so (at1 .has-bad-mods .ensures) (c .before .if3 .left)))), (refl, refl, refl))
 
 pub read-spec : {M : Type 1} → statement M
 read-spec =

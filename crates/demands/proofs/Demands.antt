@@ -4,10 +4,16 @@ use mathlib.Core.Path.{_≡_, refl, sym, ap, _∙_, subst}
 use mathlib.Core.Logic.{_≢_}
 use mathlib.Core.Bool.{Bool, true, false}
 use mathlib.Core.List.{List, [], _∷_, _++_, append-nil}
-use Prim.Native.Nat.{ℕ, _*_, _≤_, _<_}
+use Prim.Native.Nat.{ℕ, _-_, _*_, _/_, _≤_, _<_}
 use native.Mathlib.Omega.{arith}
-use lib.Ieee.{Float}
-use lib.ListN.{length, drop}
+use lib.Ieee.{Float, toUnsigned}
+use lib.ListN.{length, take, drop}
+use Rattle.demands.proofs.Exactness.{combo-points-exact, spinner-score-exact}
+use Rattle.simulator.proofs.Exact.{rustSpinnerScore}
+use Rattle.simulator.specs.Nested.{noObject, countedAll}
+use Rattle.simulator.specs.Walk.{comboPoints}
+use Rattle.ruleset.specs.Stars.{multiplierAt}
+use Rattle.numbers.specs.Floats.{whole, _⊗_}
 use Rattle.board_build.specs.Build.{built}
 use Rattle.board.specs.Edit.{objectIn, editOf}
 use Rattle.tree.specs.Board.{boardOf, startsOf}
@@ -103,6 +109,16 @@ pub values-are-the-definition's : (s : List ℕ) (sc : Scores) → scoresOf (fil
 values-are-the-definition's s sc e =
     let k = no-number s sc e in
     record { file = k .file; read = k .read; map = k .map; plays = scored-all (k .file .map) (k .file .plays) (sc .plays) (k .plays) }
+
+-- "These products are exact; no cast saturates": for every accepted map and passed count, the Rust's float products and sums are the whole numbers of
+-- the definitions
+pub every-combo-product-is-exact : (m : Map) (p : ℕ) → AcceptedMap m → (c : ℕ) → c ≤ scoreAttributesAt m p .legacy .«max_combo»
+    → toUnsigned 31 (whole (c - 1) ⊗ whole (300 / 25) ⊗ whole (multiplierAt m p)) ≡ comboPoints (multiplierAt m p) c 300
+every-combo-product-is-exact = combo-points-exact
+
+pub every-spinner-sum-is-exact : (m : Map) (p : ℕ) → AcceptedMap m
+    → rustSpinnerScore (whole 0) (take p (m .objects)) ≡ whole (countedAll noObject (take p (m .objects)) .«spinner_score»)
+every-spinner-sum-is-exact = spinner-score-exact
 
 -- ---- Demand 3
 -- "For every list of edits and reads that document 01 admits, refused calls included, on a board and start table built from an accepted map": the

@@ -5,6 +5,7 @@ pub mod SoundWords
 pub mod ReadRight
 pub mod CallsRight
 pub mod Boards
+pub mod Exactness
 pub mod Lists
 pub mod ListUse
 pub mod Demands

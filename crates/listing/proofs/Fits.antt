@@ -24,7 +24,7 @@ use Rattle.simulator.specs.Walk.{State, fresh as no-hit, after}
 use Rattle.simulator.specs.Attributes.{scoreAttributesAt, scoreAttributesOf, legacyAttributesOf}
 use Rattle.simulator.specs.View.{times}
 use Rattle.simulator.proofs.Bounds.{product-fits}
-use Rattle.simulator.proofs.Few.{Few, kind-few, passed-within, passed-counted}
+use Rattle.simulator.proofs.Few.{each-few, passed-within, passed-counted}
 use Rattle.simulator.proofs.Walks.{after-times, fresh-times}
 use Rattle.scoring.specs.Scores.{Outcome, refusal, values, at-offset, then, Scores, playScoreOn, playScores, scoresOf}
 use Rattle.play_score.specs.declared.PlayScore.{PlayScore}
@@ -36,10 +36,6 @@ use Rattle.listing.specs.declared.Listed.the-variants as listed
 use Rattle.scoring.proofs.Rules.{refusal-rule}
 
 -- ---- the numbers of a map's line
-each-few : (os : List Object) → Each ObjectWithin os → Each Few os
-each-few [] w = no-more
-each-few (o ∷ os) (one h w) = one (kind-few (o .kind) (h .kind)) (each-few os w)
-
 module _ (m : Map) (p : ℕ) (w : MapWithin m) where
   abbrev k : ℕ
   k = multiplierAt m p

@@ -40,6 +40,11 @@ kind-few circle h = omega arith
 kind-few (slider is) h = let e = items-count is in omega (arith, e, h)
 kind-few (spinner d) h = omega arith
 
+-- those of a map within its limits
+pub each-few : (os : List Object) → Each ObjectWithin os → Each Few os
+each-few [] w = none
+each-few (o ∷ os) (one h w) = one (kind-few (o .kind) (h .kind)) (each-few os w)
+
 pub object-few : (r : List ℕ) (m : ℕ) → All (λ f. FewIn (f .0)) (objectOf r m)
 object-few r m = all-map (objectOf r m) (object-within r m) few
   where
@@ -50,7 +55,7 @@ object-few r m = all-map (objectOf r m) (object-within r m) few
     few (play p, n) h = tt
 
 -- ---- so the sums stay within their bounds
-each-take : (p : ℕ) {os : List Object} → Each Few os → Each Few (take p os)
+pub each-take : {P : Object → Type 0} (p : ℕ) {os : List Object} → Each P os → Each P (take p os)
 each-take zero w = none
 each-take (suc p) none = none
 each-take (suc p) (one h w) = one h (each-take p w)

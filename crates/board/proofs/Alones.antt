@@ -10,7 +10,7 @@ use lib.ListN.{length}
 use Rattle.numbers.specs.Words.{wordAt}
 use Rattle.rules.specs.Refusals.{Checked, good, refused, _>>=_, _>>_, refuse_when_}
 use Rattle.records.specs.Objects.{Object, objectView}
-use Rattle.records.specs.Records.{Content, header, break, object, play, Found, objectOf, readOf, contentView}
+use Rattle.records.specs.Records.{Content, header, break, object, play, FoundRecord, objectOf, recordRead, contentView}
 use Rattle.records.specs.declared.record.Record.{Record}
 use Rattle.records.specs.declared.record.Read.the-variants as read
 use Rattle.rules.proofs.Laws.{never}
@@ -27,7 +27,7 @@ module _ (r : List ℕ) where
   one-byte some h = simp (ne-eqb _ _ some, lt-ltb _ _ h)
 
   -- behind the mark
-  abbrev behind : Found → Checked Object
+  abbrev behind : FoundRecord → Checked Object
   behind x = x >>= (λ found. objectOnly (found .0) >>= (λ o. (refuse 3 when ltb (found .1) (length r)) >> good o))
 
   module _ (two : 2 ≤ length r) where
@@ -35,15 +35,15 @@ module _ (r : List ℕ) where
     unfolding objectIn _>>_ refuse_when_
     marked = simp (ne-eqb (length r) 0 (λ z. (omega (arith, two, z))), le-ltb _ _ two)
 
-    pub not-read : (n : ℕ) → read.Refused n ≡ readOf (objectOf r (wordAt r 0 2)) → objectIn r ≡ refused n
+    pub not-read : (n : ℕ) → read.Refused n ≡ recordRead (objectOf r (wordAt r 0 2)) → objectIn r ≡ refused n
     unfolding _>>=_
     not-read n e = marked ∙ go (objectOf r (wordAt r 0 2)) e
       where
-        go : (x : Found) → read.Refused n ≡ readOf x → behind x ≡ refused n
+        go : (x : FoundRecord) → read.Refused n ≡ recordRead x → behind x ≡ refused n
         go (refused m) e = let k : n ≡ m = cc in ap refused (sym k)
         go (good f) e = never (cc)
 
-    module _ (item : Record) (size : ℕ) (e : read.Good item size ≡ readOf (objectOf r (wordAt r 0 2))) where
+    module _ (item : Record) (size : ℕ) (e : read.Good item size ≡ recordRead (objectOf r (wordAt r 0 2))) where
       pub longer : size < length r → objectIn r ≡ refused 3
       unfolding _>>=_ _>>_ refuse_when_
       longer h = marked ∙ go (objectOf r (wordAt r 0 2)) e
@@ -54,7 +54,7 @@ module _ (r : List ℕ) where
           by (object o) m k = rw (sym k) (simp (lt-ltb _ _ h))
           by (play p) m k = refl
 
-          go : (x : Found) → read.Good item size ≡ readOf x → behind x ≡ refused 3
+          go : (x : FoundRecord) → read.Good item size ≡ recordRead x → behind x ≡ refused 3
           go (refused m) e = never (cc)
           go (good (c, m)) e = by c m (cc)
 
@@ -68,6 +68,6 @@ module _ (r : List ℕ) where
           by (object o) m i k = ap onlyOf i ∙ rw (sym k) (simp (le-ltb _ _ h))
           by (play p) m i k = ap onlyOf i
 
-          go : (x : Found) → read.Good item size ≡ readOf x → onlyOf item ≡ aloneOf (behind x)
+          go : (x : FoundRecord) → read.Good item size ≡ recordRead x → onlyOf item ≡ aloneOf (behind x)
           go (refused m) e = never (cc)
           go (good (c, m)) e = by c m (cc) (cc)

@@ -12,7 +12,7 @@ use Rattle.rules.specs.Limits.{maxBonus}
 use Rattle.numbers.specs.Words.{wordAt}
 use Rattle.rules.specs.Refusals.{Checked, good, refused, _>>=_, _>>_, refuse_when_}
 use Rattle.records.specs.Objects.{Object, Kind, kindView, objectView, bonus, kindBonus}
-use Rattle.records.specs.Records.{Content, header, break, object, play, Found, objectOf}
+use Rattle.records.specs.Records.{Content, header, break, object, play, FoundRecord, objectOf}
 use Rattle.records.specs.declared.hit_object.HitObject.{HitObject}
 use Rattle.rules.proofs.Laws.{never}
 use Rattle.rules.proofs.All.{All, none, that, all-out}
@@ -26,7 +26,7 @@ use Rattle.entries.proofs.Runs.{entry-own}
 use Rattle.entries.specs.declared.entry.Entry.{Entry}
 use Rattle.tree.specs.Size.{levelsOf, capOf}
 use Rattle.tree.specs.declared.Size.{Size}
-use Rattle.board.specs.Place.{roomFor, Holds, putAt, putLeft, writtenOf, writtenLeft}
+use Rattle.board.specs.Place.{roomFor, Holds, putPlace, putLeft, writtenOf, writtenLeft}
 use Rattle.board.specs.Edit.{objectOnly, objectIn, aloneOf, editOf}
 use Rattle.board.specs.declared.edit.Alone.the-variants as alone
 use Rattle.board.proofs.Binds.{bound, passed, bind-good, bind-refused, then-good, then-refused, when-true, when-false}
@@ -87,9 +87,9 @@ pub size-is : (size : Size) (n : ℕ) (b : List ℕ) (ts : List Float) → Holds
 size-is size n b ts h = ap₂ (λ (l c : ℕ). record { levels = l; cap = c }) (h .levels) (h .cap)
 
 pub same-put : {size size′ : Size} {v v′ : Entry} {start start′ : Float} (place : ℕ) (b : List ℕ) (ts : List Float)
-    → size ≡ size′ → v ≡ v′ → start ≡ start′ → putAt size place v start b ts ≡ putAt size′ place v′ start′ b ts
+    → size ≡ size′ → v ≡ v′ → start ≡ start′ → putPlace size place v start b ts ≡ putPlace size′ place v′ start′ b ts
 same-put {size = size} {size′ = size′} {v = v} {v′ = v′} {start = start} {start′ = start′} place b ts p q r =
-    ap (λ (z : Size). putAt z place v start b ts) p ∙ ap (λ (u : Entry). putAt size′ place u start b ts) q ∙ ap (λ (t : Float). putAt size′ place v′ t b ts) r
+    ap (λ (z : Size). putPlace z place v start b ts) p ∙ ap (λ (u : Entry). putPlace size′ place u start b ts) q ∙ ap (λ (t : Float). putPlace size′ place v′ t b ts) r
 
 -- the answer of a put, as an edit gives it
 pub written-left : (x : Checked (List ℕ × List Float)) (b : List ℕ) (ts : List Float)
@@ -110,7 +110,7 @@ module _ (b : List ℕ) (ts : List Float) (n place : ℕ) (r : List ℕ) where
 
     module _ (inside : place < n) where
       checked : editOf b ts n place r
-          ≡ (objectIn r >>= (λ o. putAt (record { levels = levelsOf n; cap = capOf n }) place (entryOf (o ∷ [])) (o .start) b ts))
+          ≡ (objectIn r >>= (λ o. putPlace (record { levels = levelsOf n; cap = capOf n }) place (entryOf (o ∷ [])) (o .start) b ts))
       unfolding editOf
       checked = then-good (roomFor b ts n) _ tt room ∙ when-false 12 _ _ (lt-leb n place inside)
 
@@ -118,5 +118,5 @@ module _ (b : List ℕ) (ts : List Float) (n place : ℕ) (r : List ℕ) where
       bad-record k e = checked ∙ bind-refused (objectIn r) _ k e
 
       pub puts : (o : Object) → objectIn r ≡ good o
-          → editOf b ts n place r ≡ putAt (record { levels = levelsOf n; cap = capOf n }) place (entryOf (o ∷ [])) (o .start) b ts
+          → editOf b ts n place r ≡ putPlace (record { levels = levelsOf n; cap = capOf n }) place (entryOf (o ∷ [])) (o .start) b ts
       puts o e = checked ∙ bind-good (objectIn r) _ o e

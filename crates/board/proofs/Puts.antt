@@ -11,23 +11,23 @@ use Rattle.tree.specs.Put.{climbed, putOf, orElse}
 use Rattle.tree.specs.declared.Size.{Size}
 use Rattle.tree.specs.declared.Put.{Put}
 use Rattle.tree.specs.declared.Put.the-variants as put
-use Rattle.board.specs.Place.{putAt, putLeft}
+use Rattle.board.specs.Place.{putPlace, putLeft}
 
 module _ (size : Size) (place : ℕ) (v : Entry) (start : Float) (b : List ℕ) (ts : List Float) where
   abbrev climb : Checked (List ℕ)
   climb = climbed (size .levels) b (size .cap + place) v
 
   pub stopped : (n : ℕ) (b′ : List ℕ) → put.Refused n ≡ putOf climb → b′ ≡ orElse climb b
-      → (put.Refused n, b′, ts) ≡ putLeft (putAt size place v start b ts) b ts
-  unfolding putAt _>>=_
+      → (put.Refused n, b′, ts) ≡ putLeft (putPlace size place v start b ts) b ts
+  unfolding putPlace _>>=_
   stopped n b′ e h = go climb e h
     where
       go : (x : Checked (List ℕ)) → put.Refused n ≡ putOf x → b′ ≡ orElse x b → (put.Refused n, b′, ts) ≡ putLeft (x >>= (λ w. good (w, set ts place start))) b ts
       go (refused m) e h = let k : n ≡ m = cc in ap₂ (λ (i : ℕ) (l : List ℕ). (put.Refused i, l, ts)) k h
       go (good w) e h = never (cc)
 
-  pub stored : (b′ : List ℕ) → put.Done ≡ putOf climb → b′ ≡ orElse climb b → (put.Done, b′, set ts place start) ≡ putLeft (putAt size place v start b ts) b ts
-  unfolding putAt _>>=_
+  pub stored : (b′ : List ℕ) → put.Done ≡ putOf climb → b′ ≡ orElse climb b → (put.Done, b′, set ts place start) ≡ putLeft (putPlace size place v start b ts) b ts
+  unfolding putPlace _>>=_
   stored b′ e h = go climb e h
     where
       go : (x : Checked (List ℕ)) → put.Done ≡ putOf x → b′ ≡ orElse x b → (put.Done, b′, set ts place start) ≡ putLeft (x >>= (λ w. good (w, set ts place start))) b ts

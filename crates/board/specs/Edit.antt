@@ -15,7 +15,7 @@ use Rattle.records.specs.declared.record.Record.{Record}
 use Rattle.records.specs.declared.record.Record.the-variants as record·case
 use Rattle.entries.specs.Entry.{entryOf}
 use Rattle.tree.specs.Size.{levelsOf, capOf}
-use Rattle.board.specs.Place.{roomFor, putAt}
+use Rattle.board.specs.Place.{roomFor, putPlace}
 use Rattle.board.specs.declared.edit.Alone.{Alone}
 use Rattle.board.specs.declared.edit.Alone.the-variants as alone
 
@@ -54,4 +54,4 @@ editOf b ts n place r = do
   roomFor b ts n
   refuse PLACE when leb n place
   o ← objectIn r
-  putAt (record { levels = levelsOf n; cap = capOf n }) place (entryOf (o ∷ [])) (o .start) b ts
+  putPlace (record { levels = levelsOf n; cap = capOf n }) place (entryOf (o ∷ [])) (o .start) b ts

@@ -7,7 +7,7 @@ use lib.ListN.{take, set, replicate}
 use lib.Ieee.{Float, binary32, binary64, ofBits, ofInt, round, toUnsigned, mul, div, le, lt, eq, neg}
 use Rattle.numbers.specs.Words.{wordAt, bytesOf}
 use Rattle.spinner.specs.HalfSpins.{totalHalfSpins, requiredHalfSpins}
-use Rattle.spinner.specs.Bonus.{walked as turned, legacyOf, standardisedOf}
+use Rattle.spinner.specs.Bonus.{halfSpinPoints as turned, legacyOf, standardisedOf}
 use Rattle.rules.specs.Refusals.{Checked, refused, good, _>>=_, _>>_, refuse_when_}
 use Rattle.records.specs.Objects.{repeats, ticks}
 use Rattle.play_state.specs.Play.{flagsBad}
@@ -26,7 +26,7 @@ use Rattle.tree.specs.Size.{levelsFrom, levelsOf}
 use Rattle.tree.specs.Limited.{limited, afterOf}
 use Rattle.tree.specs.Put.{aboveOf, climbed}
 use Rattle.tree.specs.First.{walked}
-use Rattle.board.specs.Place.{roomFor, putAt}
+use Rattle.board.specs.Place.{roomFor, putPlace}
 use Rattle.board.specs.Edit.{objectIn, editOf}
 use Rattle.board.specs.Search.{startsIn, foundOf}
 use Rattle.board.specs.Read.{settingsBad, timesBad, argumentsBad, attributesFrom, scoreFrom, readOf}
@@ -165,7 +165,7 @@ edits =
     ∷ []
 
 edit-numbers : map (λ (r : Edit). number (editOf (r .0) (r .1) (r .2) (r .3) (r .4))) edits ≡ map (λ (r : Edit). r .5) edits
-unfolding edits editOf roomFor levelsOf levelsFrom objectIn objectOf circleOf sliderOf spinnerOf nestedOf putAt climbed aboveOf limited inLimits joined entryAt entryOf total repeats ticks legacyOf standardisedOf spinnerScoreOf turned totalHalfSpins requiredHalfSpins wordAt bytesOf _>>=_ _>>_ refuse_when_ ofBits ofInt round toUnsigned mul div le lt eq neg
+unfolding edits editOf roomFor levelsOf levelsFrom objectIn objectOf circleOf sliderOf spinnerOf nestedOf putPlace climbed aboveOf limited inLimits joined entryAt entryOf total repeats ticks legacyOf standardisedOf spinnerScoreOf turned totalHalfSpins requiredHalfSpins wordAt bytesOf _>>=_ _>>_ refuse_when_ ofBits ofInt round toUnsigned mul div le lt eq neg
 edit-numbers = refl
 
 -- ---- reads: "then their arguments (.. a read its settings and breaks, starts and ends in turn, an odd count 4, then 8), then 13 and 7 entry by

@@ -39,8 +39,8 @@ pub record Holds (size : Size) (n : ℕ) (b : List ℕ) (ts : List Float) : Type
   pub numbers : n ≤ length ts
 
 -- both slices, with an entry and what follows from it above, and a start
-unfoldable pub putAt : Size → ℕ → Entry → Float → List ℕ → List Float → Checked (List ℕ × List Float)
-putAt size place v start b ts = do
+unfoldable pub putPlace : Size → ℕ → Entry → Float → List ℕ → List Float → Checked (List ℕ × List Float)
+putPlace size place v start b ts = do
   written ← climbed (size .levels) b (size .cap + place) v
   good (written, set ts place start)
 

@@ -11,7 +11,7 @@ ghost use mathlib.Core.Bool.{true};
 ghost use Prim.Native.Nat.{_*_, _≤_, _<_};
 ghost use lib.ListN.{length};
 ghost use Rattle.entries.specs.Entry.{inLimits, placeWords};
-ghost use Rattle.board.specs.Place.{roomFor, roomOf, putAt, putLeft};
+ghost use Rattle.board.specs.Place.{roomFor, roomOf, putPlace, putLeft};
 
 // What a build or an edit answers.
 pub enum Written {
@@ -51,7 +51,7 @@ pub fn put_at(
     start: f64,
 ) -> Put
     requires { ⌜ (place < size .cap) × (placeWords * size .cap ≤ length (now board)) × (place < length (now starts)) × (inLimits entry ≡ true) ⌝ }
-    ensures { λ r. ⌜ (r, now (board .exit), now (starts .exit)) ≡ putLeft (putAt size place entry start (now (board .entry)) (now (starts .entry))) (now (board .entry)) (now (starts .entry)) ⌝ }
+    ensures { λ r. ⌜ (r, now (board .exit), now (starts .exit)) ≡ putLeft (putPlace size place entry start (now (board .entry)) (now (starts .entry))) (now (board .entry)) (now (starts .entry)) ⌝ }
 {
     match climb(board, size.levels, size.cap + place, entry) {
         Put::Refused(number) => Put::Refused(number),

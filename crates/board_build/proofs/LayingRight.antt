@@ -12,9 +12,9 @@ use borrow.Author.Tests.{eqb-true}
 use Rattle.numbers.specs.Words.{wordAt}
 use Rattle.rules.specs.Refusals.{good, refused}
 use Rattle.records.specs.Objects.{Object, kindView}
-use Rattle.records.specs.Records.{Content, header, break, object, play, Found, contentView, objectOf, readOf}
+use Rattle.records.specs.Records.{Content, header, break, object, play, FoundRecord, contentView, objectOf, recordRead}
 use Rattle.map_file.specs.Order.{MH, BR, PL, rankOf, bodyOf}
-use Rattle.map_file.specs.File.{File, Result, accepted, countsOf, with-record, fresh, fileOf}
+use Rattle.map_file.specs.File.{File, Result, accepted, countsOf, with-record, nothingRead, fileOf}
 use Rattle.records.specs.declared.record.Record.{Record}
 use Rattle.records.specs.declared.record.Read.{Read}
 use Rattle.records.specs.declared.record.Read.the-variants as read
@@ -99,7 +99,7 @@ pub record Ahead (s : List ℕ) (at size : ℕ) : Type 0 where
   pub inside : at + size ≤ length s
 
 pub laying-start : (s : List ℕ) (cap : ℕ) (b : List ℕ) (ts : List Float) → SoFar s cap b ts 0 0 b ts
-laying-start s cap b ts = record { file = fresh; chain = start; at-is = refl; place-is = refl; words = sym (laid-none cap b); starts = refl }
+laying-start s cap b ts = record { file = nothingRead; chain = start; at-is = refl; place-is = refl; words = sym (laid-none cap b); starts = refl }
 
 module _ {s : List ℕ} {cap : ℕ} {b₀ : List ℕ} {ts₀ : List Float} {at place : ℕ} {b : List ℕ} {ts : List Float}
     (h : Lays cap (fileOf s) b₀ ts₀) (k : SoFar s cap b₀ ts₀ at place b ts) where
@@ -132,7 +132,7 @@ module _ {s : List ℕ} {cap : ℕ} {b₀ : List ℕ} {ts₀ : List Float} {at p
     next : Next
     next = go (foundAt s f) refl
       where
-        go : (x : Found) → foundAt s f ≡ x → Next
+        go : (x : FoundRecord) → foundAt s f ≡ x → Next
         go (refused n) e = let r = sym (on-stop s f n (chain-on s f (k .chain)) here e) ∙ h .read in never (cc)
         go (good r) e = record { found = r; is = e }
 
@@ -216,7 +216,7 @@ module _ {s : List ℕ} {cap : ℕ} {b₀ : List ℕ} {ts₀ : List Float} {at p
           (w, omega (arith, low, h .places), omega (arith, same-words, h .words), omega (arith, low, same-numbers, h .numbers))
       room-of (play p) m w less = tt
 
-      pub laying-room : LaysRead cap place (readOf (objectOf r mark)) b ts
+      pub laying-room : LaysRead cap place (recordRead (objectOf r mark)) b ts
       laying-room = rw object-is (room-of x n few fewer-next)
 
       -- what it lays, and that it is one more
@@ -247,9 +247,9 @@ module _ {s : List ℕ} {cap : ℕ} {b₀ : List ℕ} {ts₀ : List Float} {at p
       pub object-low : place < cap
       object-low = let w = laid-of x n (placed ∙ third) fewer-next .one in omega (arith, w, fewer-next, h .places, k .place-is)
 
-      module _ {size : ℕ} {b′ : List ℕ} {ts′ : List Float} (q : (size, b′, ts′) ≡ readLaid cap place (readOf (objectOf r mark)) b ts) where
-        told : (size, b′, ts′) ≡ readLaid cap place (readOf (good (next .found))) b ts
-        told = q ∙ ap (λ (y : Found). readLaid cap place (readOf y) b ts) object-is
+      module _ {size : ℕ} {b′ : List ℕ} {ts′ : List Float} (q : (size, b′, ts′) ≡ readLaid cap place (recordRead (objectOf r mark)) b ts) where
+        told : (size, b′, ts′) ≡ readLaid cap place (recordRead (good (next .found))) b ts
+        told = q ∙ ap (λ (y : FoundRecord). readLaid cap place (recordRead y) b ts) object-is
 
         object-size : size ≡ n
         object-size = λ i. told i .0

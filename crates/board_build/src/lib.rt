@@ -19,7 +19,7 @@ use scoring::plays::Plays;
 use scoring::plays::check_plays;
 use tree::build::fill;
 ghost use mathlib.Core.Path.{_≡_};
-ghost use Rattle.records.specs.Records.{readOf, objectOf};
+ghost use Rattle.records.specs.Records.{recordRead, objectOf};
 ghost use Rattle.map_file.specs.File.{fileOf};
 ghost use Rattle.scoring.specs.Scores.{scoresOf};
 ghost use Rattle.board_build.specs.Build.{built};
@@ -65,8 +65,8 @@ fn lay_object(
     cap: usize,
     place: usize,
 ) -> usize
-    requires { ⌜ LaysRead cap place (readOf (objectOf (now r) mark)) (now board) (now starts) ⌝ }
-    ensures { λ x. ⌜ (x, now (board .exit), now (starts .exit)) ≡ readLaid cap place (readOf (objectOf (now (r .entry)) mark)) (now (board .entry)) (now (starts .entry)) ⌝ }
+    requires { ⌜ LaysRead cap place (recordRead (objectOf (now r) mark)) (now board) (now starts) ⌝ }
+    ensures { λ x. ⌜ (x, now (board .exit), now (starts .exit)) ≡ readLaid cap place (recordRead (objectOf (now (r .entry)) mark)) (now (board .entry)) (now (starts .entry)) ⌝ }
 {
     if mark == hit_object::CI {
         return lay_read(hit_object::read_circle(r), board, starts, cap, place);

@@ -38,13 +38,13 @@ use Rattle.tree.specs.Put.{climbed}
 use Rattle.tree.specs.Board.{Covers, boardOf, startsOf}
 use Rattle.tree.proofs.Levels.{levels-hold}
 use Rattle.tree.proofs.Touched.{OthersKept, only-covering, few-cover}
-use Rattle.board.specs.Place.{roomFor, putAt, writtenLeft}
+use Rattle.board.specs.Place.{roomFor, putPlace, writtenLeft}
 use Rattle.board.specs.Edit.{objectOnly, objectIn, editOf}
 use Rattle.board.specs.declared.place.Written.{Written}
 use Rattle.board.specs.declared.place.Written.the-variants as written
 use Rattle.board.proofs.Binds.{bound, passed}
 use Rattle.board.proofs.Rooms as rooms
-use Rattle.demands.specs.Calls.{isAccepted, changed, timesOf, Lent, lentFor, Call, edit, read, Answer, edits, reads, answer, lentAfter, putIfAccepted, mapAfter, recordAnswer, editAnswer, AcceptedMap}
+use Rattle.demands.specs.Calls.{isAccepted, changed, timesOf, Lent, lentFor, Call, edit, read, CallAnswer, edits, reads, answer, lentAfter, putIfAccepted, mapAfter, recordAnswer, editAnswer, AcceptedMap}
 use Rattle.scoring.proofs.Rules.{IsRule, Ruled, fine, rule, ruled-bind, ruled-when, ruled-object, ruled-score-of, two, three, eight}
 use Rattle.demands.proofs.Maps.{within-accepted, within-scored, accepted-is-within}
 use Rattle.demands.proofs.EditRight.{edit-right}
@@ -112,7 +112,7 @@ pub record Touches (n place : ℕ) (b : List ℕ) (ts : List Float) (written : L
   pub starts : (i : ℕ) → i ≢ place → getD (written .1) i nan ≡ getD ts i nan
 
 pub edit-touches-only : (b : List ℕ) (ts : List Float) (n place : ℕ) (r : List ℕ) (w : List ℕ × List Float) → editOf b ts n place r ≡ good w → Touches n place b ts w
-unfolding editOf putAt _>>_
+unfolding editOf putPlace _>>_
 edit-touches-only b ts n place r w e = go (roomFor b ts n) refl e
   where
     rest : Checked (List ℕ × List Float)

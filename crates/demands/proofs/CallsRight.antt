@@ -35,7 +35,7 @@ use Rattle.board.specs.Read.{readOf}
 use Rattle.board.specs.declared.place.Written.{Written}
 use Rattle.board.specs.declared.place.Written.the-variants as written
 use Rattle.board.proofs.Edits as edits
-use Rattle.demands.specs.Calls.{isAccepted, AcceptedMap, changed, timesOf, mapIn, Lent, lentFor, Call, edit, read, Answer, edits as answered, reads, answer, lentAfter, putIfAccepted, mapAfter, editAnswer, fromFile, ReadAnswer, IsRefused, Stands, MayStand, Answers, Right, lentBy, Claim}
+use Rattle.demands.specs.Calls.{isAccepted, AcceptedMap, changed, timesOf, mapIn, Lent, lentFor, Call, edit, read, CallAnswer, edits as answered, reads, answer, lentAfter, putIfAccepted, mapAfter, editAnswer, fromFile, ReadAnswer, IsRefused, Stands, MayStand, Answers, Right, lentBy, Claim}
 use Rattle.demands.proofs.Maps.{accepted-is-within, within-is-accepted, changed-within, by-bonus}
 use Rattle.demands.proofs.EditRight.{edit-right}
 use Rattle.demands.proofs.ReadRight.{read-right}

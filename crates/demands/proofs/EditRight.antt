@@ -21,7 +21,7 @@ use Rattle.tree.specs.Size.{levelsOf, capOf}
 use Rattle.tree.specs.Put.{climbed}
 use Rattle.tree.specs.Board.{boardOf, startsOf}
 use Rattle.tree.proofs.Changed.{change, board-length}
-use Rattle.board.specs.Place.{roomFor, putAt, writtenLeft}
+use Rattle.board.specs.Place.{roomFor, putPlace, writtenLeft}
 use Rattle.board.specs.Edit.{objectIn, editOf}
 use Rattle.board.specs.declared.place.Written.{Written}
 use Rattle.board.specs.declared.place.Written.the-variants as written
@@ -73,7 +73,7 @@ module _ (m : Map) (w : MapWithin m) (words : List ℕ) (numbers : List Float) w
       -- a record that is just one object
       put : (o : Object) → ObjectWithin o → objectIn r ≡ good o
           → left (editOf b ts (length os) place r) ≡ Left (recordAnswer m place (good o)) (putIfAccepted m place (good o))
-      unfolding putAt _>>=_
+      unfolding putPlace _>>=_
       put o v e =
           ap left (edits.puts b ts (length os) place r room inside o e)
           ∙ go (ltb maxBonus (bonus (set os place o))) (change os words place o (w .objects) (w .few-objects) (w .low-bonus) v inside) (by-bonus m w place o v)

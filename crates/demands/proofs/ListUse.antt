@@ -13,7 +13,7 @@ use Rattle.numbers.specs.MinMax.{clampOf}
 use Rattle.numbers.specs.Rounding.{roundTiesEvenI32}
 use Rattle.rules.specs.Refusals.{_>>=_, _>>_, refuse_when_}
 use Rattle.spinner.specs.HalfSpins.{totalHalfSpins, requiredHalfSpins}
-use Rattle.spinner.specs.Bonus.{legacyOf, standardisedOf, walked}
+use Rattle.spinner.specs.Bonus.{legacyOf, standardisedOf, halfSpinPoints}
 use Rattle.play_state.specs.Play.{flagsBad, hitresultsOf}
 use Rattle.play_state.specs.declared.Play.{Play}
 use Rattle.play_state.specs.declared.OsuScoreOrigin.the-variants.{Stable}
@@ -39,11 +39,11 @@ use Rattle.tree.specs.Size.{levelsFrom, levelsOf}
 use Rattle.tree.specs.Limited.{limited}
 use Rattle.tree.specs.Put.{aboveOf, climbed}
 use Rattle.tree.specs.Board.{covered, entryIn, boardEntry, boardOf, startsOf}
-use Rattle.board.specs.Place.{roomFor, putAt}
+use Rattle.board.specs.Place.{roomFor, putPlace}
 use Rattle.board.specs.Edit.{objectIn, editOf}
 use Rattle.board.specs.declared.place.Written.the-variants as written
 use Rattle.board_build.specs.Build.{buildOf, built}
-use Rattle.demands.specs.Calls.{isAccepted, timesOf, Lent, mapIn, lentBy, Call, edit, read, Answer, edits, reads, answer, lentAfter, lentAfterAll, mapAfter, MayStand, Right}
+use Rattle.demands.specs.Calls.{isAccepted, timesOf, Lent, mapIn, lentBy, Call, edit, read, CallAnswer, edits, reads, answer, lentAfter, lentAfterAll, mapAfter, MayStand, Right}
 use Rattle.demands.proofs.CallsRight.{calls-right}
 use Rattle.demands.proofs.Lists.{left-at-last}
 
@@ -107,7 +107,7 @@ unfolding at built-map words file numbers isAccepted mapFile headerBytes breakBy
 done = refl
 
 stands : MayStand list (mapIn (fileOf file)) first
-unfolding first at built-map words file numbers list spin play isAccepted mapFile headerBytes breakBytes nestedBytes objectBytes each fieldsOf fileOf fileFrom with-record countsOf bonus recordOf bodyOf objectOf headerOf breakOf circleOf sliderOf spinnerOf playOf nestedOf hitresultsOf flagsBad wordAt bytesOf _>>=_ _>>_ refuse_when_ ofBits le lt eq neg ofInt toBits playScores buildOf roomFor levelsFrom levelsOf answer lentAfter mapAfter editOf objectIn putAt climbed aboveOf limited joined inLimits entryAt putEntry entryOf total covered entryIn boardEntry boardOf wordsFrom legacyOf standardisedOf spinnerScoreOf totalHalfSpins requiredHalfSpins add sub mul div toUnsigned isNan walked repeats ticks
+unfolding first at built-map words file numbers list spin play isAccepted mapFile headerBytes breakBytes nestedBytes objectBytes each fieldsOf fileOf fileFrom with-record countsOf bonus recordOf bodyOf objectOf headerOf breakOf circleOf sliderOf spinnerOf playOf nestedOf hitresultsOf flagsBad wordAt bytesOf _>>=_ _>>_ refuse_when_ ofBits le lt eq neg ofInt toBits playScores buildOf roomFor levelsFrom levelsOf answer lentAfter mapAfter editOf objectIn putPlace climbed aboveOf limited joined inLimits entryAt putEntry entryOf total covered entryIn boardEntry boardOf wordsFrom legacyOf standardisedOf spinnerScoreOf totalHalfSpins requiredHalfSpins add sub mul div toUnsigned isNan halfSpinPoints repeats ticks
 stands = (inl refl, (inl refl, (inl refl, (inr tt, (tt, (tt, tt))))))
 
 -- ---- what the claim tells
@@ -122,7 +122,7 @@ sized = record {
 }
 
 -- multiplier, combo points and legacy bonus of a read
-valuesOf : Answer → List (ℕ × ℕ × ℕ)
+valuesOf : CallAnswer → List (ℕ × ℕ × ℕ)
 valuesOf (edits w) = []
 valuesOf (reads (given.Refused n at)) = []
 valuesOf (reads (given.Score s)) = (s .attributes .multiplier, s .attributes .legacy .«combo_score», s .attributes .legacy .«bonus_score» .0) ∷ []
@@ -140,7 +140,7 @@ record Told : Type 0 where
   first-read : valuesOf (answer (read 3 (built-map .settings) [] play) edited) ≡ (2, 240, 8800) ∷ []
 
 told : Told
-unfolding first edited at built-map words file numbers list spin play valuesOf isAccepted timesOf mapAfter objectIn mapFile headerBytes breakBytes nestedBytes objectBytes each fieldsOf fileOf fileFrom with-record countsOf bonus recordOf bodyOf objectOf headerOf breakOf circleOf sliderOf spinnerOf playOf nestedOf hitresultsOf flagsBad wordAt bytesOf _>>=_ _>>_ refuse_when_ ofBits le lt eq neg ofInt toBits playScores levelsFrom levelsOf boardOf wordsFrom boardEntry entryIn covered entryOf total legacyOf standardisedOf spinnerScoreOf totalHalfSpins requiredHalfSpins add sub mul div toUnsigned isNan walked repeats ticks givenScore playScore modsBad exceeds hitsExceed overCombo isDue scoreAttributesAt scoreAttributesOf legacyAttributesOf difficultyAttributesOf bonusRatioOf nestedScoreOf counted countedAll breaksOf breaksLength drainAt multiplierAt starsOf ratioOf clampOf roundTiesEvenI32 halfSpins hitsOf walk after
+unfolding first edited at built-map words file numbers list spin play valuesOf isAccepted timesOf mapAfter objectIn mapFile headerBytes breakBytes nestedBytes objectBytes each fieldsOf fileOf fileFrom with-record countsOf bonus recordOf bodyOf objectOf headerOf breakOf circleOf sliderOf spinnerOf playOf nestedOf hitresultsOf flagsBad wordAt bytesOf _>>=_ _>>_ refuse_when_ ofBits le lt eq neg ofInt toBits playScores levelsFrom levelsOf boardOf wordsFrom boardEntry entryIn covered entryOf total legacyOf standardisedOf spinnerScoreOf totalHalfSpins requiredHalfSpins add sub mul div toUnsigned isNan halfSpinPoints repeats ticks givenScore playScore modsBad exceeds hitsExceed overCombo isDue scoreAttributesAt scoreAttributesOf legacyAttributesOf difficultyAttributesOf bonusRatioOf nestedScoreOf counted countedAll breaksOf breaksLength drainAt multiplierAt starsOf ratioOf clampOf roundTiesEvenI32 halfSpins hitsOf walk after
 told =
     let right : Right (7 ∷ []) (whole 9 ∷ []) list (mapIn (fileOf file)) first = calls-right file words numbers list done stands in
     record {
@@ -154,5 +154,5 @@ told =
 -- in numbers: of entry 1 the words q, k, s, accuracy and circles; of entry 6, the spinner's, q, legacy, standardised, spinners and nested; the word beyond
 words-told : map (λ (i : ℕ). getD (lentAfterAll list first .board) i 0) (13 ∷ 14 ∷ 15 ∷ 17 ∷ 20 ∷ 78 ∷ 83 ∷ 84 ∷ 87 ∷ 90 ∷ 104 ∷ [])
     ≡ 3 ∷ 7 ∷ 12 ∷ 1010 ∷ 1 ∷ 1 ∷ 8800 ∷ 460 ∷ 1 ∷ 3100 ∷ 7 ∷ []
-unfolding at levelsFrom levelsOf ofInt lt le eq neg ofBits toBits boardOf wordsFrom boardEntry entryIn covered entryOf total legacyOf standardisedOf spinnerScoreOf totalHalfSpins requiredHalfSpins add sub mul div toUnsigned isNan walked repeats ticks
+unfolding at levelsFrom levelsOf ofInt lt le eq neg ofBits toBits boardOf wordsFrom boardEntry entryIn covered entryOf total legacyOf standardisedOf spinnerScoreOf totalHalfSpins requiredHalfSpins add sub mul div toUnsigned isNan halfSpinPoints repeats ticks
 words-told = ap (λ (l : Lent). map (λ (i : ℕ). getD (l .board) i 0) (13 ∷ 14 ∷ 15 ∷ 17 ∷ 20 ∷ 78 ∷ 83 ∷ 84 ∷ 87 ∷ 90 ∷ 104 ∷ [])) (told .left)

@@ -79,12 +79,12 @@ pub data Call : Type 0 where
   -- object count, settings, breaks, play
   read : ℕ → Settings → List Float → Play → Call
 
-pub data Answer : Type 0 where
-  edits : Written → Answer
-  reads : GivenPlay → Answer
+pub data CallAnswer : Type 0 where
+  edits : Written → CallAnswer
+  reads : GivenPlay → CallAnswer
 
 -- ---- what the calls do to any lent memory: their contracts
-unfoldable pub answer : Call → Lent → Answer
+unfoldable pub answer : Call → Lent → CallAnswer
 answer (edit n place r) l = edits (writtenLeft (editOf (l .board) (l .starts) n place r) (l .board) (l .starts) .0)
 answer (read n s br p) l = reads (givenAnswer (readOf (l .board) (l .starts) n s br p))
 
@@ -137,14 +137,14 @@ fromFile (values s) = onlyPlay (s .plays)
 
 -- "A read with the map's count, settings and breaks gets 8, 9 or 10 exactly when its play, put after the map in the file, gets that same number;
 -- its values are all score attributes and estimates of demand 2": as a file's with just that play, and as the scoring call's of a play on the map
-pub record ReadAnswer (m : Map) (p : Play) (a : Answer) : Type 0 where
+pub record ReadAnswer (m : Map) (p : Play) (a : CallAnswer) : Type 0 where
   pub as-in-file : a ≡ reads (fromFile (scoresOf (fileOf (mapFile m ++ playBytes p))))
   pub as-scored : a ≡ reads (givenAnswer (givenScore p (scoreAttributesAt m (p .«passed_objects»))))
 
 -- ---- the claim
 -- "An edit with an object count other than the map's may stand in the list only where it is refused; a read may be given a count, settings or
 -- breaks other than the map's"
-abbrev pub IsRefused : Answer → Type 0
+abbrev pub IsRefused : CallAnswer → Type 0
 IsRefused (edits written.Done) = ⊥
 IsRefused (edits (written.Refused n at)) = Unit {0}
 IsRefused (reads a) = Unit {0}

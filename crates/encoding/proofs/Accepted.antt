@@ -15,9 +15,9 @@ use Rattle.numbers.specs.Words.{wordAt}
 use Rattle.rules.specs.Refusals.{Checked, good, refused, _>>=_, pick}
 use Rattle.records.specs.Fields.{timed, set, settingOf}
 use Rattle.records.specs.Objects.{Item, circle, slider, spinner, Object, bonus, kindBonus}
-use Rattle.records.specs.Records.{Content, header, break, object, play, Found, CI, SL, SP, headerOf, breakOf, circleOf, nestedOf, sliderOf, spinnerOf, playOf, objectOf, contentView}
+use Rattle.records.specs.Records.{Content, header, break, object, play, FoundRecord, CI, SL, SP, headerOf, breakOf, circleOf, nestedOf, sliderOf, spinnerOf, playOf, objectOf, contentView}
 use Rattle.map_file.specs.Order.{MH, BR, PL, bodyOf, recordOf, contentBonus}
-use Rattle.map_file.specs.File.{Map, File, Result, accepted, refusedAt, countsOf, with-record, follow, ended, fileFrom, fresh, fileOf}
+use Rattle.map_file.specs.File.{Map, File, Result, accepted, refusedAt, countsOf, with-record, follow, ended, fileFrom, nothingRead, fileOf}
 use Rattle.map_file.specs.View.{Fits}
 use Rattle.encoding.specs.Limits.{Within, IsTime, IsSetting, IsDuration, Each, none, one, SettingsWithin, BreakWithin, ObjectWithin, MapWithin}
 use Rattle.map_file.specs.declared.file.Counts.{Counts}
@@ -110,7 +110,7 @@ pub each-snoc : {A : Type 0} {P : A → Type 0} (l : List A) (a : A) → Each P 
 each-snoc [] a none p = one p none
 each-snoc (x ∷ l) a (one q ps) p = one q (each-snoc l a ps p)
 
-fresh-within : FileWithin fresh
+fresh-within : FileWithin nothingRead
 unfolding bonus
 fresh-within = record { settings = λ h. absurd (omega (arith, h)); breaks = none; few-breaks = omega arith; objects = none; few-objects = omega arith; low-bonus = omega arith }
 
@@ -148,7 +148,7 @@ found-within : (s : List ℕ) (f : File) → FileWithin f → All (λ r. FileWit
 found-within s f w =
     go (foundAt s f) (record-within (drop (f .at) s) (countsOf f)) (record-fits (drop (f .at) s) (countsOf f)) (record-begun (drop (f .at) s) (countsOf f))
   where
-    go : (x : Found) → All FoundWithin x → All (λ r. Fits (countsOf f) (contentView (r .0))) x → All (λ r. Begun (countsOf f) (r .0)) x → All (λ r. FileWithin (with-record f r)) x
+    go : (x : FoundRecord) → All FoundWithin x → All (λ r. Fits (countsOf f) (contentView (r .0))) x → All (λ r. Begun (countsOf f) (r .0)) x → All (λ r. FileWithin (with-record f r)) x
     go (refused n) a b c = checked.none
     go (good r) (that a) (that b) (that c) = that (with-within f (r .0) (r .1) w a b c)
 
@@ -166,7 +166,7 @@ ended-within f w = go (eqb (f .last) 0) refl
         let some : 0 < f .last = (let ne = eqb-false (f .last) 0 e in omega (arith, ne)) in
         yes (record { settings = w .settings some; breaks = w .breaks; few-breaks = w .few-breaks; objects = w .objects; few-objects = w .few-objects; low-bonus = w .low-bonus })
 
-follow-within : (f : File) (x : Found) (go : Content × ℕ → Result) → All (λ r. FileWithin (with-record f r)) x
+follow-within : (f : File) (x : FoundRecord) (go : Content × ℕ → Result) → All (λ r. FileWithin (with-record f r)) x
     → ((r : Content × ℕ) → FileWithin (with-record f r) → IfAccepted (λ g. MapWithin (g .map)) (go r)) → IfAccepted (λ g. MapWithin (g .map)) (follow f x go)
 follow-within f (refused n) go a k = no
 follow-within f (good r) go (that w) k = k r w
@@ -183,7 +183,7 @@ from-within (suc fuel) s f w =
 
 pub accepted-within : (s : List ℕ) (f : File) → fileOf s ≡ accepted f → MapWithin (f .map)
 unfolding fileOf
-accepted-within s f e = out (rw e at (from-within (suc (length s)) s fresh fresh-within))
+accepted-within s f e = out (rw e at (from-within (suc (length s)) s nothingRead fresh-within))
   where
     out : {f : File} → IfAccepted (λ g. MapWithin (g .map)) (accepted f) → MapWithin (f .map)
     out (yes p) = p

@@ -15,7 +15,7 @@ use Rattle.numbers.proofs.bits.Laws.{written-read, written-lt}
 use Rattle.rules.specs.Refusals.{Checked, good, refused, _>>=_, _>>_, refuse_when_, pick}
 use Rattle.records.specs.Fields.{timeLimit, timeOf, durationOf, settingOf, played}
 use Rattle.records.specs.Objects.{Item, tick, repeat, circle, slider, spinner, Object}
-use Rattle.records.specs.Records.{header, break, object, play, Found, CI, SL, SP, headerOf, breakOf, circleOf, itemOf, nestedOf, sliderOf, spinnerOf, objectOf, playOf}
+use Rattle.records.specs.Records.{header, break, object, play, FoundRecord, CI, SL, SP, headerOf, breakOf, circleOf, itemOf, nestedOf, sliderOf, spinnerOf, objectOf, playOf}
 use Rattle.encoding.specs.Limits.{Within, IsTime, IsSetting, IsDuration, SettingsWithin, BreakWithin, KindWithin, ObjectWithin, ScoreWithin, PlaySized, PlayWithin}
 use Rattle.play_state.specs.Play.{originOf, scoreOf, flagsBad, hitresultsOf}
 use Rattle.encoding.specs.Encoding.{fieldsOf, headerFields, breakFields, circleFields, sliderFields, spinnerFields, playFields, originByte, presentByte, scoreNumber, itemByte, nestedBytes, headerBytes, breakBytes, objectBytes, playBytes}

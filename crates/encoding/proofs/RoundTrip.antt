@@ -14,9 +14,9 @@ use Rattle.rules.specs.Limits.{maxBonus, maxBreaks, maxObjects}
 use Rattle.numbers.specs.Words.{wordAt}
 use Rattle.rules.specs.Refusals.{Checked, good, refused, _>>=_, _>>_, refuse_when_}
 use Rattle.records.specs.Objects.{circle, slider, spinner, Kind, Object, bonus, kindBonus}
-use Rattle.records.specs.Records.{Content, header, break, object, play, Found, CI, SL, SP, objectOf, playOf}
+use Rattle.records.specs.Records.{Content, header, break, object, play, FoundRecord, CI, SL, SP, objectOf, playOf}
 use Rattle.map_file.specs.Order.{MH, BR, PL, rankOf, inOrder, isFull, contentBonus, bodyOf, recordOf}
-use Rattle.map_file.specs.File.{Map, File, accepted, refusedAt, countsOf, with-record, ended, fresh, fileOf}
+use Rattle.map_file.specs.File.{Map, File, accepted, refusedAt, countsOf, with-record, ended, nothingRead, fileOf}
 use Rattle.encoding.specs.Limits.{Each, none, one, SettingsWithin, BreakWithin, KindWithin, ObjectWithin, MapWithin, PlayWithin}
 use Rattle.encoding.specs.Encoding.{fieldsOf, headerFields, breakFields, circleFields, sliderFields, spinnerFields, playFields, nestedBytes, kindBytes, headerBytes, breakBytes, objectBytes, playBytes, each, mapFile}
 use Rattle.records.specs.declared.beatmap.Settings.{Settings}
@@ -76,15 +76,15 @@ header-long : (h : Settings) → length (headerBytes h) ≡ 14
 unfolding headerBytes
 header-long h = fields-length (headerFields h)
 
-header-found : (h : Settings) (rest : List ℕ) → SettingsWithin h → recordOf (headerBytes h ++ rest) (countsOf fresh) ≡ good (header h, 14)
+header-found : (h : Settings) (rest : List ℕ) → SettingsWithin h → recordOf (headerBytes h ++ rest) (countsOf nothingRead) ≡ good (header h, 14)
 unfolding headerBytes bodyOf countsOf bonus
 header-found h rest w =
     let long : length (headerBytes h) ≡ 14 = header-long h in
-    record-good (headerBytes h ++ rest) (countsOf fresh) MH (header h) 14 (two-bytes (headerBytes h) rest (omega (arith, long))) (mark-back MH _ rest (lit< tt)) refl refl (header-back h rest w) (omega arith)
+    record-good (headerBytes h ++ rest) (countsOf nothingRead) MH (header h) 14 (two-bytes (headerBytes h) rest (omega (arith, long))) (mark-back MH _ rest (lit< tt)) refl refl (header-back h rest w) (omega arith)
 
-run-header : (s : List ℕ) (h : Settings) (rest : List ℕ) → SettingsWithin h → s ≡ headerBytes h ++ rest → Run s (with-record fresh (header h, 14)) rest
+run-header : (s : List ℕ) (h : Settings) (rest : List ℕ) → SettingsWithin h → s ≡ headerBytes h ++ rest → Run s (with-record nothingRead (header h, 14)) rest
 run-header s h rest w e =
-    run-step s fresh (headerBytes h) rest (header h) 14 (record { on = on-start s; left = e }) (header-long h) (omega arith) (header-found h rest w)
+    run-step s nothingRead (headerBytes h) rest (header h) 14 (record { on = on-start s; left = e }) (header-long h) (omega arith) (header-found h rest w)
 
 -- the order and the counts of a record that may follow
 in-order : (last rank : ℕ) → 1 < rank → 0 < last → last ≤ rank → inOrder last rank ≡ true
@@ -319,7 +319,7 @@ laid : (m : Map) (rest : List ℕ) → mapFile m ++ rest ≡ headerBytes (m .set
 unfolding mapFile
 laid m rest = simp append-assoc
 
-breaks-next : (m : Map) → MapWithin m → BreaksNext (with-record fresh (header (m .settings), 14)) (m .breaks)
+breaks-next : (m : Map) → MapWithin m → BreaksNext (with-record nothingRead (header (m .settings), 14)) (m .breaks)
 unfolding with-record bonus
 breaks-next m w = record { ready = record { begun = lit< tt; early = omega arith; low = omega arith }; room = (let h = w .few-breaks in omega (arith, h)); within = w .breaks }
 
@@ -348,12 +348,12 @@ plays-next f ps r w = record { ready = ready-on f r; within = w }
 last-run : {s : List ℕ} {f : File} {rest : List ℕ} → Run s f rest → Run s f (rest ++ [])
 last-run {rest = rest} run = record { on = run .on; left = run .left ∙ sym (append-nil rest) }
 
-after-header : (m : Map) → let k = with-record fresh (header (m .settings), 14) .map in
+after-header : (m : Map) → let k = with-record nothingRead (header (m .settings), 14) .map in
     _≡_ {A = Map} (record { settings = k .settings; breaks = k .breaks ++ m .breaks; objects = k .objects }) (record { settings = m .settings; breaks = m .breaks; objects = [] })
 unfolding with-record
 after-header m = refl
 
-header-plays : (m : Map) → with-record fresh (header (m .settings), 14) .plays ≡ []
+header-plays : (m : Map) → with-record nothingRead (header (m .settings), 14) .plays ≡ []
 unfolding with-record
 header-plays m = refl
 
@@ -376,7 +376,7 @@ pub record MapRun (m : Map) (rest : List ℕ) : Type 0 where
 pub run-map : (m : Map) (rest : List ℕ) → MapWithin m → MapRun m rest
 run-map m rest w =
     let s = mapFile m ++ rest in
-    let f₁ = with-record fresh (header (m .settings), 14) in
+    let f₁ = with-record nothingRead (header (m .settings), 14) in
     let f₂ = with-breaks f₁ (m .breaks) in
     let read₂ = breaks-read (m .breaks) f₁ in
     let read₃ = objects-read (m .objects) f₂ in

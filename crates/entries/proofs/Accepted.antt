@@ -13,7 +13,7 @@ use Rattle.rules.specs.Limits.{maxGain, maxObjects, maxBonus, maxCombo, maxComb
 use Rattle.numbers.specs.Floats.{whole}
 use Rattle.numbers.proofs.Bounds.{Upto, of-tests}
 use Rattle.spinner.specs.HalfSpins.{totalHalfSpins, requiredHalfSpins}
-use Rattle.spinner.specs.Bonus.{isLarge, isSmall, walked, legacyOf, standardisedOf}
+use Rattle.spinner.specs.Bonus.{isLarge, isSmall, halfSpinPoints, legacyOf, standardisedOf}
 use Rattle.records.specs.Objects.{Object, Kind, circle, slider, spinner, repeats, ticks, kindBonus, bonus}
 use Rattle.encoding.specs.Limits.{Each, none, one, IsDuration, KindWithin, ObjectWithin}
 use Rattle.simulator.specs.Combo.{gain, gainBefore, combosBefore, firstNoSlider}
@@ -78,10 +78,10 @@ ticks-most (slider is) h = let n = items-count is in omega (arith, h, n)
 ticks-most (spinner d) h = omega arith
 
 -- the standardised bonus of a spinner is at most a tenth of its legacy bonus, the nested score not much above two thirds
-walked-below : (b i : ℕ) → 10 * walked 50 10 b i ≤ walked 1100 100 b i
-unfolding walked
+walked-below : (b i : ℕ) → 10 * halfSpinPoints 50 10 b i ≤ halfSpinPoints 1100 100 b i
+unfolding halfSpinPoints
 walked-below b zero = omega arith
-walked-below b (suc i) = step (isLarge b i) (isSmall i) (walked 50 10 b i) (walked 1100 100 b i) (walked-below b i)
+walked-below b (suc i) = step (isLarge b i) (isSmall i) (halfSpinPoints 50 10 b i) (halfSpinPoints 1100 100 b i) (walked-below b i)
   where
     step : (x y : Bool) (u v : ℕ) → 10 * u ≤ v → 10 * (u + cond x 50 (cond y 10 0)) ≤ v + cond x 1100 (cond y 100 0)
     step true y u v h = omega arith

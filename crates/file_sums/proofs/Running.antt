@@ -11,7 +11,7 @@ use lib.ListN.{length, drop}
 use Rattle.rules.specs.Limits.{maxBonus, maxObjects}
 use Rattle.records.specs.Objects.{objectView, kindView}
 use Rattle.rules.specs.Refusals.{good, refused, pick}
-use Rattle.records.specs.Records.{Found, contentView}
+use Rattle.records.specs.Records.{FoundRecord, contentView}
 use Rattle.map_file.specs.Order.{recordOf}
 use Rattle.map_file.specs.View.{countedIn, stepOf, behind as behind·of}
 use Rattle.records.specs.declared.hit_object.HitObject.{HitObject}
@@ -135,7 +135,7 @@ module _ {s : List ℕ} {p : ℕ} {reader : Reader} {sums : Sums} (k : Summing s
   summing-ready = (ready-score, ready-nested, ready-room)
 
 -- ---- objects that are not passed leave the sums as they are
-next-count : (r : Reader) (x : Found) (o : HitObject) (next : Reader) → step.Next (record·case.Object o) next ≡ stepOf r x → next .counts .objects ≡ r .counts .objects + 1
+next-count : (r : Reader) (x : FoundRecord) (o : HitObject) (next : Reader) → step.Next (record·case.Object o) next ≡ stepOf r x → next .counts .objects ≡ r .counts .objects + 1
 unfolding countedIn
 next-count r (refused n) o next e = let z : _≡_ {A = ℕ} 0 1 = cc in absurd (omega arith)
 next-count r (good f) o next e =

@@ -11,8 +11,7 @@ use Rattle.numbers.specs.Words.{wordAt}
 use Rattle.records.specs.Objects.{Object, Kind, circle, slider, spinner, kindView, objectView}
 use Rattle.records.specs.Records.{Content, header, break, object, play, contentView, headerOf, breakOf, playOf, objectOf}
 use Rattle.map_file.specs.Order.{MH, BR, PL, bodyOf, recordOf}
-use Rattle.map_file.specs.File.{Map, File, Result, accepted, countsOf, with-record, ended, fileOf}
-use Rattle.map_file.specs.File as file·of
+use Rattle.map_file.specs.File.{Map, File, Result, accepted, countsOf, with-record, ended, fileOf, nothingRead}
 use Rattle.encoding.specs.Limits.{Each, none, one, KindWithin, BreakWithin, ObjectWithin, SettingsWithin, MapWithin}
 use Rattle.map_file.specs.View.{Fits, stepOf, view, freshOf}
 use Rattle.records.specs.declared.beatmap.BreakPeriod.{BreakPeriod}
@@ -66,7 +65,7 @@ pub record Summing (s : List ℕ) (p : ℕ) (reader : Reader) (sums : Sums) : Ty
 
 pub summing-start : (s : List ℕ) (p : ℕ) → Summing s p freshOf (sumsOf p [])
 summing-start s p =
-    record { file = file·of.fresh; kept = kept-start s; standing = standing-start s; few = none; count = omega arith; same = refl }
+    record { file = nothingRead; kept = kept-start s; standing = standing-start s; few = none; count = omega arith; same = refl }
 
 objects-with : (f : File) (x : Content) (n : ℕ) → FewIn x → Fits (countsOf f) (contentView x) → Each Few (f .map .objects) → length (f .map .objects) ≤ maxObjects
     → Each Few (with-record f (x, n) .map .objects) × (length (with-record f (x, n) .map .objects) ≤ maxObjects)

@@ -13,7 +13,7 @@ use Rattle.rules.specs.Limits.{maxNested, maxBonus, maxObjects}
 use Rattle.numbers.specs.Words.{wordAt}
 use Rattle.rules.specs.Refusals.{good, refused, _>>=_, _>>_, refuse_when_}
 use Rattle.records.specs.Objects.{Object, Kind, circle, slider, spinner, kindView, objectView, kindBonus}
-use Rattle.records.specs.Records.{Content, header, break, object, play, Found, contentView, readOf, CI, SL, SP, objectOf}
+use Rattle.records.specs.Records.{Content, header, break, object, play, FoundRecord, contentView, recordRead, CI, SL, SP, objectOf}
 use Rattle.map_file.specs.Order.{rankOf, bodyOf, recordOf}
 use Rattle.map_file.specs.View.{kindBonusIn, countedIn, behind, stepOf}
 use Rattle.map_file.specs.declared.file.Reader.{Reader}
@@ -53,12 +53,12 @@ kept (slider is) = refl
 kept (spinner d) = refl
 
 -- ---- an object that the code read
-record Named (x : Found) (o : HitObject) (n : ℕ) : Type 0 where
+record Named (x : FoundRecord) (o : HitObject) (n : ℕ) : Type 0 where
   this : Object
   is : x ≡ good (object this, n)
   view : objectView this ≡ o
 
-named : (x : Found) (o : HitObject) (n : ℕ) → read.Good (record·case.Object o) n ≡ readOf x → Named x o n
+named : (x : FoundRecord) (o : HitObject) (n : ℕ) → read.Good (record·case.Object o) n ≡ recordRead x → Named x o n
 named (refused m) o n e = never (cc)
 named (good f) o n e = go (f .0) (f .1) refl (cc)
   where
@@ -68,7 +68,7 @@ named (good f) o n e = go (f .0) (f .1) refl (cc)
     go (play q) k p e = never (cc)
     go (object this) k p e = let i : n ≡ k = cc in let v : o ≡ objectView this = cc in record { this = this; is = ap good (p ∙ ap (λ (l : ℕ). (object this, l)) (sym i)); view = sym v }
 
-module _ (r : List ℕ) (m : ℕ) (item : Record) (n : ℕ) (e : read.Good item n ≡ readOf (objectOf r m)) where
+module _ (r : List ℕ) (m : ℕ) (item : Record) (n : ℕ) (e : read.Good item n ≡ recordRead (objectOf r m)) where
   pub read-within : n ≤ length r
   read-within = read-size (objectOf r m) item n e r (object-sized r m) .1
 

@@ -20,8 +20,8 @@ use Rattle.host.specs.declared.answer.MapAnswer.{MapAnswer}
 use Rattle.host.specs.declared.answer.PlayAnswer.{PlayAnswer}
 
 -- all score attributes, from the three structs that the engine keeps them in
-abbrev pub attributesOf : ScoreAttributes → HostAttributes
-attributesOf a = record {
+abbrev pub hostAttributes : ScoreAttributes → HostAttributes
+hostAttributes a = record {
   «object_count» = a .«object_count»;
   multiplier = a .multiplier;
   «accuracy_score» = a .legacy .«accuracy_score»;
@@ -68,8 +68,8 @@ scoreBased misses.Absent = whole 0
 scoreBased (misses.Is x) = x
 
 -- accuracy and the three estimates of the misses
-abbrev pub estimatesOf : Estimates → HostEstimates
-estimatesOf e = record {
+abbrev pub hostEstimates : Estimates → HostEstimates
+hostEstimates e = record {
   accuracy = e .accuracy;
   «combo_based» = e .«combo_based»;
   «score_based» = scoreBased (e .«score_based»);
@@ -83,12 +83,12 @@ noEstimates = record { accuracy = whole 0; «combo_based» = whole 0; «score_ba
 
 -- a map's attributes, or the number of the refusal and its offset, with every value 0
 abbrev pub mapAnswerOf : MapScore → MapAnswer
-mapAnswerOf (map·score.Map a) = record { status = 0; offset = 0; attributes = attributesOf a }
+mapAnswerOf (map·score.Map a) = record { status = 0; offset = 0; attributes = hostAttributes a }
 mapAnswerOf (map·score.Refused number offset) = record { status = number; offset = offset; attributes = noAttributes }
 
 -- a play's attributes and estimates
 abbrev pub playAnswerIn : PlayScore → PlayAnswer
-playAnswerIn s = record { status = 0; offset = 0; attributes = attributesOf (s .attributes); estimates = estimatesOf (s .estimates) }
+playAnswerIn s = record { status = 0; offset = 0; attributes = hostAttributes (s .attributes); estimates = hostEstimates (s .estimates) }
 
 -- none of a play that is refused
 abbrev pub playAnswerRefused : ℕ → ℕ → PlayAnswer

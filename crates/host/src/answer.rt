@@ -7,7 +7,7 @@ use scoring::score::ListedPlay;
 use scoring::score::MapScore;
 use simulator::attributes::ScoreAttributes;
 ghost use mathlib.Core.Path.{_≡_};
-ghost use Rattle.host.specs.Answer.{attributesOf, noAttributes, isScoreBased, scoreBased, estimatesOf, noEstimates};
+ghost use Rattle.host.specs.Answer.{hostAttributes, noAttributes, isScoreBased, scoreBased, hostEstimates, noEstimates};
 ghost use Rattle.host.specs.Answer.{mapAnswerOf, playAnswerIn, playAnswerRefused, givenAnswerOf, listedAnswerOf};
 
 // Of the passed objects, or of all of a map.
@@ -58,7 +58,7 @@ pub struct PlayAnswer {
 const NO_PLAY: u8 = 255;
 
 fn attributes_of(a: ScoreAttributes) -> HostAttributes
-    ensures { λ r. ⌜ r ≡ attributesOf a ⌝ }
+    ensures { λ r. ⌜ r ≡ hostAttributes a ⌝ }
 {
     HostAttributes {
         object_count: a.object_count,
@@ -118,7 +118,7 @@ fn score_based(m: MissCount) -> f64
 }
 
 fn estimates_of(e: Estimates) -> HostEstimates
-    ensures { λ r. ⌜ r ≡ estimatesOf e ⌝ }
+    ensures { λ r. ⌜ r ≡ hostEstimates e ⌝ }
 {
     let misses = e.score_based;
     HostEstimates {

@@ -11,8 +11,8 @@ use lib.ListN.{length, take, length-append, length-drop}
 use Rattle.rules.specs.Limits.{maxObjects}
 use Rattle.rules.specs.Refusals.{Checked, good, refused, pick}
 use Rattle.records.specs.Objects.{Object}
-use Rattle.records.specs.Records.{Content, header, break, object, play, Found}
-use Rattle.map_file.specs.File.{Map, File, Result, accepted, refusedAt, with-record, follow, ended, fileFrom, fresh, fileOf}
+use Rattle.records.specs.Records.{Content, header, break, object, play, FoundRecord}
+use Rattle.map_file.specs.File.{Map, File, Result, accepted, refusedAt, with-record, follow, ended, fileFrom, nothingRead, fileOf}
 use Rattle.play_state.specs.declared.Play.{Play}
 use Rattle.rules.proofs.Laws.{never}
 use Rattle.map_file.proofs.Reading.{foundAt, found-sized, length-snoc}
@@ -104,14 +104,14 @@ held-from (suc fuel) s f k = go (λ r q. held-from fuel s (with-record f r) (nex
         held-with s f (r .0) (r .1) (omega (arith, sized .1, room, k .inside)) (sized .2) k
 
     go : ((r : Content × ℕ) → foundAt s f ≡ good r → HeldFile s (fileFrom fuel s (with-record f r)))
-        → (b : Bool) (x : Found) → foundAt s f ≡ x → HeldFile s (pick b (follow f x (λ r. fileFrom fuel s (with-record f r))) (ended f))
+        → (b : Bool) (x : FoundRecord) → foundAt s f ≡ x → HeldFile s (pick b (follow f x (λ r. fileFrom fuel s (with-record f r))) (ended f))
     go more false x q = held-ended s f k
     go more true (refused n) q = part (k .inside) k
     go more true (good r) q = more r q
 
 held-file : (s : List ℕ) → HeldFile s (fileOf s)
 unfolding fileOf
-held-file s = held-from (suc (length s)) s fresh (record { inside = omega arith; plays = omega arith; offsets = no-more })
+held-file s = held-from (suc (length s)) s nothingRead (record { inside = omega arith; plays = omega arith; offsets = no-more })
 
 -- ---- so a refusal's offset lies within the file, and the scores are as many as the plays
 data HeldScores (s : List ℕ) (count : ℕ) : Outcome (List PlayScore) → Type 0 where

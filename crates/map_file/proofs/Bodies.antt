@@ -5,7 +5,7 @@ use Prim.Native.Nat.{ℕ}
 use native.Mathlib.Omega.{arith}
 use Rattle.rules.specs.Refusals.{Checked, good, refused, _>>=_, _>>_, refuse_when_}
 use Rattle.records.specs.Objects.{circle, slider, spinner, Kind, Object, kindView, kindBonus}
-use Rattle.records.specs.Records.{Content, header, break, object, play, Found, contentView, readOf}
+use Rattle.records.specs.Records.{Content, header, break, object, play, FoundRecord, contentView, recordRead}
 use Rattle.map_file.specs.Order.{overBonus, contentBonus}
 use Rattle.map_file.specs.View.{bonusIn, kindBonusIn}
 use Rattle.records.specs.declared.record.Record.{Record}
@@ -26,15 +26,15 @@ bonus-kept (object o) = kept (o .kind)
 bonus-kept (play p) = refl
 
 -- a record and the check of its bonus
-abbrev pub held : Counts → Found → Found
+abbrev pub held : Counts → FoundRecord → FoundRecord
 held c x = x >>= (λ f. (refuse 7 when overBonus c (contentBonus (f .0))) >> good f)
 
-pub held-refused : (c : Counts) (x : Found) (n : ℕ) → Refused n ≡ readOf x → Refused n ≡ readOf (held c x)
+pub held-refused : (c : Counts) (x : FoundRecord) (n : ℕ) → Refused n ≡ recordRead x → Refused n ≡ recordRead (held c x)
 unfolding _>>=_
 held-refused c (refused m) n e = e
 held-refused c (good f) n e = never (cc)
 
-pub held-over : (c : Counts) (x : Found) (r : Record) (n b : ℕ) → Good r n ≡ readOf x → b ≡ bonusIn r → overBonus c b ≡ true → Refused 7 ≡ readOf (held c x)
+pub held-over : (c : Counts) (x : FoundRecord) (r : Record) (n b : ℕ) → Good r n ≡ recordRead x → b ≡ bonusIn r → overBonus c b ≡ true → Refused 7 ≡ recordRead (held c x)
 unfolding _>>=_ _>>_ refuse_when_
 held-over c (refused m) r n b e p q = never (cc)
 held-over c (good f) r n b e p q =
@@ -42,7 +42,7 @@ held-over c (good f) r n b e p q =
     let h : overBonus c (contentBonus (f .0)) ≡ true = ap (overBonus c) (sym (p ∙ ap bonusIn k ∙ bonus-kept (f .0))) ∙ q in
     simp h
 
-pub held-good : (c : Counts) (x : Found) (r : Record) (n b : ℕ) → Good r n ≡ readOf x → b ≡ bonusIn r → overBonus c b ≡ false → Good r n ≡ readOf (held c x)
+pub held-good : (c : Counts) (x : FoundRecord) (r : Record) (n b : ℕ) → Good r n ≡ recordRead x → b ≡ bonusIn r → overBonus c b ≡ false → Good r n ≡ recordRead (held c x)
 unfolding _>>=_ _>>_ refuse_when_
 held-good c (refused m) r n b e p q = never (cc)
 held-good c (good f) r n b e p q =

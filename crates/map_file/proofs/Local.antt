@@ -12,7 +12,7 @@ use Rattle.numbers.specs.Words.{wordAt}
 use Rattle.numbers.proofs.words.Laws.{wordAt-within}
 use Rattle.rules.specs.Refusals.{Checked, good, refused, _>>=_, _>>_, refuse_when_, pick}
 use Rattle.play_state.specs.Play.{hitresultsOf}
-use Rattle.records.specs.Records.{Content, Found, CI, SL, SP, headerOf, breakOf, circleOf, nestedOf, sliderOf, spinnerOf, playOf, objectOf}
+use Rattle.records.specs.Records.{Content, FoundRecord, CI, SL, SP, headerOf, breakOf, circleOf, nestedOf, sliderOf, spinnerOf, playOf, objectOf}
 use Rattle.map_file.specs.Order.{MH, BR, PL, rankOf, inOrder, isFull, overBonus, contentBonus, bodyOf, recordOf}
 use Rattle.map_file.specs.declared.file.Counts.{Counts}
 use Rattle.rules.proofs.All.{All, none, that, all-any, all-bind, all-when, all-pick, all-out}
@@ -87,13 +87,13 @@ unfolding playOf
 play-size r = all-when 2 _ _ (λ _. all-any _ _ (λ a. all-any _ _ (λ b. all-when 8 _ _ (λ _. all-any _ _ (λ c. that refl)))))
 
 -- ---- what is found in the whole is found in the part that holds it
-abbrev Found-in : List ℕ → List ℕ → (List ℕ → Found) → Content × ℕ → Type 0
+abbrev Found-in : List ℕ → List ℕ → (List ℕ → FoundRecord) → Content × ℕ → Type 0
 Found-in p t read f = read (p ++ t) ≡ good f → f .1 ≤ length p → read p ≡ good f
 
-size-of : {P : Content × ℕ → Type 0} {x : Found} {f : Content × ℕ} → All P x → x ≡ good f → P f
+size-of : {P : Content × ℕ → Type 0} {x : FoundRecord} {f : Content × ℕ} → All P x → x ≡ good f → P f
 size-of {P = P} a e = all-out (subst (All P) e a)
 
-pick-in : (b : Bool) {x x′ y y′ : Found} {f : Content × ℕ} → (x ≡ good f → x′ ≡ good f) → (y ≡ good f → y′ ≡ good f) → pick b x y ≡ good f → pick b x′ y′ ≡ good f
+pick-in : (b : Bool) {x x′ y y′ : FoundRecord} {f : Content × ℕ} → (x ≡ good f → x′ ≡ good f) → (y ≡ good f → y′ ≡ good f) → pick b x y ≡ good f → pick b x′ y′ ≡ good f
 pick-in true p q e = p e
 pick-in false p q e = q e
 
@@ -157,7 +157,7 @@ passed r c f e =
     let same : k .value ≡ f = good-is (l .1) in
     record { two = a .0; order = b .0; room = d .0; body = k .is ∙ ap good same; low = subst (λ (g : Content × ℕ). overBonus c (contentBonus (g .0)) ≡ false) same (l .0) }
   where
-    good-is : {a b : Content × ℕ} → _≡_ {A = Found} (good a) (good b) → a ≡ b
+    good-is : {a b : Content × ℕ} → _≡_ {A = FoundRecord} (good a) (good b) → a ≡ b
     good-is e = cc
 
 -- a record that is found is the one of its mark

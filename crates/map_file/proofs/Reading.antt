@@ -12,9 +12,9 @@ use lib.Seq.{drop-append-le, length-take-le}
 use borrow.Author.Tests.{lt-ltb, le-ltb, eq-eqb, ne-eqb}
 use Rattle.rules.specs.Refusals.{Checked, good, refused, pick}
 use Rattle.records.specs.Objects.{Object, bonus, kindBonus}
-use Rattle.records.specs.Records.{Content, header, break, object, play, Found, contentView}
+use Rattle.records.specs.Records.{Content, header, break, object, play, FoundRecord, contentView}
 use Rattle.map_file.specs.Order.{recordOf}
-use Rattle.map_file.specs.File.{File, Result, accepted, refusedAt, countsOf, with-record, follow, ended, fileFrom, fresh, fileOf}
+use Rattle.map_file.specs.File.{File, Result, accepted, refusedAt, countsOf, with-record, follow, ended, fileFrom, nothingRead, fileOf}
 use Rattle.map_file.specs.View.{countedIn, behind, stepOf, view, freshOf, answerOf}
 use Rattle.records.specs.declared.record.Record.{Record}
 use Rattle.map_file.specs.declared.file.Reader.{Reader}
@@ -54,7 +54,7 @@ view-with f (object o, n) = rw (length-snoc (f .map .objects) o, bonus-snoc (f .
 view-with f (play p, n) = refl
 
 -- what the definition finds behind a file
-abbrev pub foundAt : List ℕ → File → Found
+abbrev pub foundAt : List ℕ → File → FoundRecord
 foundAt s f = recordOf (drop (f .at) s) (countsOf f)
 
 -- one step of the definition
@@ -83,7 +83,7 @@ pub record On (s : List ℕ) (f : File) : Type 0 where
   pub enough : length s - f .at < fuel
   pub rest : fileFrom fuel s f ≡ fileOf s
 
-pub on-start : (s : List ℕ) → On s fresh
+pub on-start : (s : List ℕ) → On s nothingRead
 unfolding fileOf
 on-start s = record { fuel = suc (length s); enough = omega arith; rest = refl }
 
@@ -140,7 +140,7 @@ from-fewer zero s f g e = never (cc)
 from-fewer (suc fuel) s f g e = go (λ r q. from-fewer fuel s (with-record f r) g q) (ltb (f .at) (length s)) (foundAt s f) e
   where
     go : ((r : Content × ℕ) → fileFrom fuel s (with-record f r) ≡ accepted g → length (with-record f r .map .objects) ≤ length (g .map .objects))
-        → (b : Bool) (x : Found) → pick b (follow f x (λ r. fileFrom fuel s (with-record f r))) (ended f) ≡ accepted g
+        → (b : Bool) (x : FoundRecord) → pick b (follow f x (λ r. fileFrom fuel s (with-record f r))) (ended f) ≡ accepted g
         → length (f .map .objects) ≤ length (g .map .objects)
     go on false x e = let same = ap (λ (h : File). length (h .map .objects)) (ended-is f g e) in omega (arith, same)
     go on true (refused n) e = never (cc)
@@ -151,7 +151,7 @@ on-fewer s f g on e = from-fewer (on .fuel) s f g (on .rest ∙ e)
 
 -- ---- the files that are read one after the other, record by record
 pub data Chain (s : List ℕ) : File → Type 0 where
-  start : Chain s fresh
+  start : Chain s nothingRead
   longer : {f : File} {r : Content × ℕ} → Chain s f → f .at < length s → foundAt s f ≡ good r → Chain s (with-record f r)
 
 pub chain-on : (s : List ℕ) (f : File) → Chain s f → On s f
@@ -215,7 +215,7 @@ pub record Kept (s : List ℕ) (f : File) (reader : Reader) : Type 0 where
   pub viewed : reader ≡ view f
   pub chain : Chain s f
 
-pub kept-start : (s : List ℕ) → Kept s fresh freshOf
+pub kept-start : (s : List ℕ) → Kept s nothingRead freshOf
 unfolding view countsOf bonus
 kept-start s = record { viewed = refl; chain = start }
 
@@ -273,14 +273,14 @@ module _ (s : List ℕ) (f : File) (reader : Reader) (k : Kept s f reader) (h : 
             ahead = omega (arith, here, there, found-sized s f r q .0);
           }
 
-      go : (x : Found) → foundAt s f ≡ x → step.Next item next ≡ stepOf (view f) x → Moved s f reader item next
+      go : (x : FoundRecord) → foundAt s f ≡ x → step.Next item next ≡ stepOf (view f) x → Moved s f reader item next
       go (refused n) q e = never (cc)
       go (good r) q e = moved r q (cc) (cc)
 
   pub kept-stop : (n at : ℕ) → step.Refused n at ≡ stepOf reader (recordOf (drop (reader .at) s) (reader .counts)) → fileOf s ≡ refusedAt n at f
   kept-stop n at e = go (foundAt s f) refl (told e)
     where
-      go : (x : Found) → foundAt s f ≡ x → step.Refused n at ≡ stepOf (view f) x → fileOf s ≡ refusedAt n at f
+      go : (x : FoundRecord) → foundAt s f ≡ x → step.Refused n at ≡ stepOf (view f) x → fileOf s ≡ refusedAt n at f
       go (good r) q e = never (cc)
       go (refused m) q e =
           let i : n ≡ m = cc in

@@ -10,7 +10,7 @@ use Rattle.rules.specs.Limits.{maxBreaks, maxObjects, maxBonus}
 use Rattle.numbers.specs.Words.{wordAt}
 use Rattle.rules.specs.Refusals.{Checked, good, refused}
 use Rattle.records.specs.Objects.{Object}
-use Rattle.records.specs.Records.{Content, header, break, object, play, Found, CI, SL, SP, headerOf, breakOf, circleOf, sliderOf, spinnerOf, playOf, objectOf, contentView}
+use Rattle.records.specs.Records.{Content, header, break, object, play, FoundRecord, CI, SL, SP, headerOf, breakOf, circleOf, sliderOf, spinnerOf, playOf, objectOf, contentView}
 use Rattle.map_file.specs.Order.{MH, BR, PL, rankOf, inOrder, isFull, overBonus, contentBonus, bodyOf, recordOf}
 use Rattle.map_file.specs.View.{Fits, bonusIn}
 use Rattle.map_file.specs.declared.file.Counts.{Counts}

@@ -6,7 +6,7 @@ use native.Mathlib.Omega.{arith}
 use lib.ListN.{length, take, drop, length-drop}
 use lib.Seq.{take-all}
 use Rattle.rules.specs.Refusals.{Checked, good, refused}
-use Rattle.records.specs.Records.{Content, Found, contentView, readOf}
+use Rattle.records.specs.Records.{Content, FoundRecord, contentView, recordRead}
 use Rattle.map_file.specs.View.{Fits, stepOf, settingsAfter, countedIn}
 use Rattle.records.specs.declared.beatmap.Settings.{Settings}
 use Rattle.records.specs.declared.record.Record.{Record}
@@ -22,18 +22,18 @@ pub rest-is : (s : List ℕ) (at : ℕ) → take (length s - at) (drop at s) ≡
 rest-is s at = let h : length (drop at s) ≤ length s - at = simp length-drop (omega arith) in take-all (length s - at) (drop at s) h
 
 -- ---- a good read
-module _ (x : Found) (r : Record) (n : ℕ) (e : Good r n ≡ readOf x) where
+module _ (x : FoundRecord) (r : Record) (n : ℕ) (e : Good r n ≡ recordRead x) where
   pub read-size : (l : List ℕ) → All (Sized l) x → (2 ≤ n) × (n ≤ length l)
   read-size l a = go x a e
     where
-      go : (x : Found) → All (Sized l) x → Good r n ≡ readOf x → (2 ≤ n) × (n ≤ length l)
+      go : (x : FoundRecord) → All (Sized l) x → Good r n ≡ recordRead x → (2 ≤ n) × (n ≤ length l)
       go (refused m) none e = never (cc)
       go (good f) (that p) e = let k : n ≡ f .1 = cc in rw k (p .0, p .1)
 
   pub read-fits : (c : Counts) → All (λ f. Fits c (contentView (f .0))) x → Fits c r
   read-fits c a = go x a e
     where
-      go : (x : Found) → All (λ f. Fits c (contentView (f .0))) x → Good r n ≡ readOf x → Fits c r
+      go : (x : FoundRecord) → All (λ f. Fits c (contentView (f .0))) x → Good r n ≡ recordRead x → Fits c r
       go (refused m) none e = never (cc)
       go (good f) (that p) e = let k : r ≡ contentView (f .0) = cc in rw k p
 
@@ -41,10 +41,10 @@ module _ (x : Found) (r : Record) (n : ℕ) (e : Good r n ≡ readOf x) where
       → step.Next r (record { at = reader .at + n; settings = s; counts = c }) ≡ stepOf reader x
   read-next reader s c p q = go x e
     where
-      go : (x : Found) → Good r n ≡ readOf x → step.Next r (record { at = reader .at + n; settings = s; counts = c }) ≡ stepOf reader x
+      go : (x : FoundRecord) → Good r n ≡ recordRead x → step.Next r (record { at = reader .at + n; settings = s; counts = c }) ≡ stepOf reader x
       go (refused m) e = never (cc)
       go (good f) e = let k : r ≡ contentView (f .0) = cc in let h : n ≡ f .1 = cc in simp (p, q, k, h)
 
-pub read-refused : (x : Found) (n : ℕ) (reader : Reader) → Refused n ≡ readOf x → step.Refused n (reader .at) ≡ stepOf reader x
+pub read-refused : (x : FoundRecord) (n : ℕ) (reader : Reader) → Refused n ≡ recordRead x → step.Refused n (reader .at) ≡ stepOf reader x
 read-refused (refused m) n reader e = let k : n ≡ m = cc in rw k
 read-refused (good f) n reader e = never (cc)

@@ -8,11 +8,11 @@ use lib.ListN.{take, replicate}
 use lib.Ieee.{ofBits, ofInt, round, toUnsigned, mul, div, le, lt, eq, neg}
 use Rattle.numbers.specs.Words.{wordAt, bytesOf}
 use Rattle.spinner.specs.HalfSpins.{totalHalfSpins, requiredHalfSpins}
-use Rattle.spinner.specs.Bonus.{walked, legacyOf}
+use Rattle.spinner.specs.Bonus.{halfSpinPoints, legacyOf}
 use Rattle.rules.specs.Refusals.{refused, good, _>>=_, _>>_, refuse_when_}
 use Rattle.records.specs.Objects.{bonus}
 use Rattle.play_state.specs.Play.{flagsBad, hitresultsOf}
-use Rattle.records.specs.Records.{Found, headerOf, breakOf, circleOf, nestedOf, sliderOf, spinnerOf, playOf, objectOf}
+use Rattle.records.specs.Records.{FoundRecord, headerOf, breakOf, circleOf, nestedOf, sliderOf, spinnerOf, playOf, objectOf}
 use Rattle.map_file.specs.Order.{noRank, headerRank, breakRank, objectRank, playRank, bodyOf, recordOf}
 use Rattle.map_file.specs.File.{Result, accepted, refusedAt, countsOf, with-record, fileFrom, fileOf}
 use Rattle.map_file.specs.declared.file.Counts.{Counts}
@@ -93,7 +93,7 @@ abbrev objects : ℕ → ℕ → Counts
 objects n bonus = record { last = objectRank; breaks = 128; objects = n; bonus = bonus }
 
 -- the number of a record, and 0 for one that passes
-abbrev number : Found → ℕ
+abbrev number : FoundRecord → ℕ
 number (refused n) = n
 number (good f) = 0
 
@@ -259,7 +259,7 @@ rows : List Row
 rows = orders ++ marks ++ edges
 
 record-numbers : map (λ (r : Row). number (recordOf (r .0) (r .1))) rows ≡ map (λ (r : Row). r .2) rows
-unfolding rows orders marks edges recordOf bodyOf objectOf headerOf breakOf circleOf sliderOf spinnerOf playOf nestedOf hitresultsOf flagsBad legacyOf walked totalHalfSpins requiredHalfSpins wordAt bytesOf _>>=_ _>>_ refuse_when_ ofBits ofInt round toUnsigned mul div le lt eq neg
+unfolding rows orders marks edges recordOf bodyOf objectOf headerOf breakOf circleOf sliderOf spinnerOf playOf nestedOf hitresultsOf flagsBad legacyOf halfSpinPoints totalHalfSpins requiredHalfSpins wordAt bytesOf _>>=_ _>>_ refuse_when_ ofBits ofInt round toUnsigned mul div le lt eq neg
 record-numbers = refl
 
 -- a spinner of 3,600,000, by its own checks alone: its bonus is a walk over 57,241 half spins

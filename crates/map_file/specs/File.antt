@@ -61,8 +61,8 @@ fileFrom (suc fuel) s f =
     pick (ltb (f .at) (length s)) (follow f (recordOf (drop (f .at) s) (countsOf f)) (λ r. fileFrom fuel s (with-record f r))) (ended f)
 
 -- nothing was read yet; the settings are there only to have a value
-abbrev pub fresh : File
-fresh = record {
+abbrev pub nothingRead : File
+nothingRead = record {
   at = 0;
   last = noRank;
   map = record { settings = record { hp = ofBits binary32 0; od = ofBits binary32 0; cs = ofBits binary32 0 }; breaks = []; objects = [] };
@@ -70,4 +70,4 @@ fresh = record {
 }
 
 unfoldable pub fileOf : List ℕ → Result
-fileOf s = fileFrom (suc (length s)) s fresh
+fileOf s = fileFrom (suc (length s)) s nothingRead

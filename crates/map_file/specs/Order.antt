@@ -8,7 +8,7 @@ use Rattle.numbers.specs.Words.{wordAt}
 use Rattle.rules.specs.Refusals.{Checked, good, refused, _>>=_, _>>_, refuse_when_, pick, CUT, MARK, COUNT, BONUS}
 use Rattle.records.specs.Fields.{cut}
 use Rattle.records.specs.Objects.{kindBonus}
-use Rattle.records.specs.Records.{Content, header, break, object, play, Found, CI, SL, SP, headerOf, breakOf, playOf, objectOf}
+use Rattle.records.specs.Records.{Content, header, break, object, play, FoundRecord, CI, SL, SP, headerOf, breakOf, playOf, objectOf}
 use Rattle.map_file.specs.declared.file.Counts.{Counts}
 
 abbrev pub MH : ℕ
@@ -61,11 +61,11 @@ contentBonus (break b) = 0
 contentBonus (object o) = kindBonus (o .kind)
 contentBonus (play p) = 0
 
-unfoldable pub bodyOf : List ℕ → ℕ → Found
+unfoldable pub bodyOf : List ℕ → ℕ → FoundRecord
 bodyOf r mark = pick (eqb mark MH) (headerOf r) (pick (eqb mark BR) (breakOf r) (pick (eqb mark PL) (playOf r) (objectOf r mark)))
 
 -- "The checks of one record run: mark cut (2), mark (3), record count (6), ..., bonus so far (7)"
-unfoldable pub recordOf : List ℕ → Counts → Found
+unfoldable pub recordOf : List ℕ → Counts → FoundRecord
 recordOf r c = do
   refuse CUT when cut r markSize
   refuse MARK when not (inOrder (c .last) (rankOf (wordAt r 0 2)))

@@ -7,7 +7,7 @@ use Rattle.map_file.specs.Order.{noRank, headerRank, breakRank, objectRa
 use Rattle.rules.specs.Limits.{maxBreaks, maxObjects, maxBonus}
 use Rattle.spinner.specs.Bonus.{legacyOf}
 use Rattle.rules.specs.Refusals.{Checked, good, refused}
-use Rattle.records.specs.Records.{Content, Found, contentView}
+use Rattle.records.specs.Records.{Content, FoundRecord, contentView}
 use Rattle.map_file.specs.File.{File, Result, accepted, refusedAt, countsOf, fileOf}
 use Rattle.records.specs.declared.beatmap.Settings.{Settings}
 use Rattle.records.specs.declared.hit_object.HitObjectKind.{HitObjectKind}
@@ -61,7 +61,7 @@ behind reader f = record {
 }
 
 -- what one record answers: the record and the reader behind it, or the refusal at the record's first byte
-abbrev pub stepOf : Reader → Found → Step
+abbrev pub stepOf : Reader → FoundRecord → Step
 stepOf reader (refused n) = step.Refused n (reader .at)
 stepOf reader (good f) = step.Next (contentView (f .0)) (behind reader f)
 

@@ -13,7 +13,7 @@ use rules::refusal;
 ghost use mathlib.Core.Path.{_≡_};
 ghost use Prim.Native.Nat.{_+_, _≤_, _<_};
 ghost use lib.ListN.{length, drop};
-ghost use Rattle.records.specs.Records.{readOf};
+ghost use Rattle.records.specs.Records.{recordRead};
 ghost use Rattle.map_file.specs.Order.{rankOf, inOrder, isFull, overBonus, bodyOf, recordOf};
 ghost use Rattle.map_file.specs.File.{fileOf};
 ghost use Rattle.map_file.specs.View.{bonusIn, countedIn, Fits, settingsAfter, stepOf, freshOf, answerOf};
@@ -128,7 +128,7 @@ fn is_full(c: Counts, rank: u8) -> bool
 }
 
 fn read_body(r: &[u8], mark: u64) -> Read
-    ensures { λ x. ⌜ x ≡ readOf (bodyOf (now (r .entry)) mark) ⌝ }
+    ensures { λ x. ⌜ x ≡ recordRead (bodyOf (now (r .entry)) mark) ⌝ }
 {
     if mark == MH {
         return beatmap::read_header(r);
@@ -172,7 +172,7 @@ fn is_over_bonus(c: Counts, bonus: u64) -> bool
 
 // The record that the rest of a file starts with, by all checks of one record in their order.
 fn read_next(r: &[u8], c: Counts) -> Read
-    ensures { λ x. ⌜ x ≡ readOf (recordOf (now (r .entry)) c) ⌝ }
+    ensures { λ x. ⌜ x ≡ recordRead (recordOf (now (r .entry)) c) ⌝ }
 {
     if r.len() < 2 {
         return Read::Refused(refusal::CUT);

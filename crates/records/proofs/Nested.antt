@@ -12,7 +12,7 @@ use lib.Dec.{eqb}
 use lib.Ieee.{Float}
 use Rattle.rules.specs.Refusals.{Checked, good, refused, _>>=_, pick}
 use Rattle.records.specs.Objects.{Item, tick, repeat, slider, repeats, ticks, sliderView}
-use Rattle.records.specs.Records.{object, itemOf, nestedOf, nestedView, readOf}
+use Rattle.records.specs.Records.{object, itemOf, nestedOf, nestedView, recordRead}
 use Rattle.records.specs.declared.hit_object.Slider.{Slider}
 use Rattle.records.specs.declared.hit_object.HitObjectKind.the-variants.{Slider as SliderKind}
 use Rattle.records.specs.declared.record.Record.the-variants.{Object as ObjectRecord}
@@ -117,7 +117,7 @@ refused-list l e = go (nestedOf l) (refuses-5 l) e
     go (good is) fine e = let z : _≡_ {A = ℕ} 0 1 = cc in absurd (omega arith)
 
 pub read-list : (x : Checked (List Item)) (s : Slider) (start : Float) (n : ℕ) → nestedView x ≡ Counts s
-    → readOf (x >>= (λ is. good (object (record { start = start; kind = slider is }), n))) ≡ Good (ObjectRecord (record { «start_time» = start; kind = SliderKind s })) n
+    → recordRead (x >>= (λ is. good (object (record { start = start; kind = slider is }), n))) ≡ Good (ObjectRecord (record { «start_time» = start; kind = SliderKind s })) n
 unfolding _>>=_
 read-list (refused m) s start n e = let z : _≡_ {A = ℕ} 0 1 = cc in absurd (omega arith)
 read-list (good is) s start n e = let z : sliderView is ≡ s = cc in rw z

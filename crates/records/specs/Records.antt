@@ -30,11 +30,11 @@ pub data Content : Type 0 where
   play : Play → Content
 
 -- a record's content and its size in bytes
-abbrev pub Found : Type 0
-Found = Checked (Content × ℕ)
+abbrev pub FoundRecord : Type 0
+FoundRecord = Checked (Content × ℕ)
 
 -- "MH: hp, od, cs"
-unfoldable pub headerOf : List ℕ → Found
+unfoldable pub headerOf : List ℕ → FoundRecord
 headerOf r = do
   refuse CUT when cut r headerSize
   hp ← set (settingOf (wordAt r 2 4))
@@ -43,7 +43,7 @@ headerOf r = do
   good (header (record { hp = hp; od = od; cs = cs }), headerSize)
 
 -- "BR: start and end, f64"
-unfoldable pub breakOf : List ℕ → Found
+unfoldable pub breakOf : List ℕ → FoundRecord
 breakOf r = do
   refuse CUT when cut r breakSize
   start ← timed (timeOf (wordAt r 2 8))
@@ -51,7 +51,7 @@ breakOf r = do
   good (break (record { «start_time» = start; «end_time» = end }), breakSize)
 
 -- "CI: circle, start f64"
-unfoldable pub circleOf : List ℕ → Found
+unfoldable pub circleOf : List ℕ → FoundRecord
 circleOf r = do
   refuse CUT when cut r circleSize
   start ← timed (timeOf (wordAt r 2 8))
@@ -71,7 +71,7 @@ nestedOf (b ∷ c ∷ bs) = do
   good (item ∷ items)
 
 -- "SL: slider, start f64, count u16, then count bytes"; "more than 1,000 nested items" is 6
-unfoldable pub sliderOf : List ℕ → Found
+unfoldable pub sliderOf : List ℕ → FoundRecord
 sliderOf r = do
   refuse CUT when cut r sliderSize
   start ← timed (timeOf (wordAt r 2 8))
@@ -81,7 +81,7 @@ sliderOf r = do
   good (object (record { start = start; kind = slider items }), sliderSize + wordAt r 10 2)
 
 -- "SP: spinner, start f64, duration f64"
-unfoldable pub spinnerOf : List ℕ → Found
+unfoldable pub spinnerOf : List ℕ → FoundRecord
 spinnerOf r = do
   refuse CUT when cut r spinnerSize
   start ← timed (timeOf (wordAt r 2 8))
@@ -89,7 +89,7 @@ spinnerOf r = do
   good (object (record { start = start; kind = spinner duration }), spinnerSize)
 
 -- "PL, 42 bytes after the mark": passed, max combo and the hits have no range of their own
-unfoldable pub playOf : List ℕ → Found
+unfoldable pub playOf : List ℕ → FoundRecord
 playOf r = do
   refuse CUT when cut r playSize
   origin ← originChecked (originOf (wordAt r 28 1))
@@ -119,9 +119,9 @@ contentView (break b) = Break b
 contentView (object o) = ObjectRecord (objectView o)
 contentView (play p) = PlayRecord p
 
-abbrev pub readOf : Found → Read
-readOf (refused n) = Refused n
-readOf (good f) = Good (contentView (f .0)) (f .1)
+abbrev pub recordRead : FoundRecord → Read
+recordRead (refused n) = Refused n
+recordRead (good f) = Good (contentView (f .0)) (f .1)
 
 -- ---- the objects' marks, in ASCII, as little-endian numbers
 abbrev pub CI : ℕ
@@ -134,5 +134,5 @@ abbrev pub SP : ℕ
 SP = 0x5053
 
 -- the object behind a mark
-unfoldable pub objectOf : List ℕ → ℕ → Found
+unfoldable pub objectOf : List ℕ → ℕ → FoundRecord
 objectOf r mark = pick (eqb mark CI) (circleOf r) (pick (eqb mark SL) (sliderOf r) (pick (eqb mark SP) (spinnerOf r) (refused MARK)))

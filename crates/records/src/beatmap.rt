@@ -6,7 +6,7 @@ use crate::record::Read;
 use crate::record::Record;
 use rules::refusal;
 ghost use mathlib.Core.Path.{_≡_};
-ghost use Rattle.records.specs.Records.{readOf, headerOf, breakOf};
+ghost use Rattle.records.specs.Records.{recordRead, headerOf, breakOf};
 
 pub struct Settings {
     pub hp: f32,
@@ -31,7 +31,7 @@ impl BreakPeriod {
 }
 
 pub fn read_header(r: &[u8]) -> Read
-    ensures { λ x. ⌜ x ≡ readOf (headerOf (now (r .entry))) ⌝ }
+    ensures { λ x. ⌜ x ≡ recordRead (headerOf (now (r .entry))) ⌝ }
 {
     if r.len() < Settings::SIZE {
         return Read::Refused(refusal::CUT);
@@ -49,7 +49,7 @@ pub fn read_header(r: &[u8]) -> Read
 }
 
 pub fn read_break(r: &[u8]) -> Read
-    ensures { λ x. ⌜ x ≡ readOf (breakOf (now (r .entry))) ⌝ }
+    ensures { λ x. ⌜ x ≡ recordRead (breakOf (now (r .entry))) ⌝ }
 {
     if r.len() < BreakPeriod::SIZE {
         return Read::Refused(refusal::CUT);

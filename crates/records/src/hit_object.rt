@@ -8,7 +8,7 @@ use numbers::words::word_at;
 use rules::refusal;
 ghost use mathlib.Core.Path.{_≡_};
 ghost use Prim.Native.Nat.{_<_};
-ghost use Rattle.records.specs.Records.{readOf, nestedView, nestedOf, circleOf, sliderOf, spinnerOf, objectOf};
+ghost use Rattle.records.specs.Records.{recordRead, nestedView, nestedOf, circleOf, sliderOf, spinnerOf, objectOf};
 
 // The marks in ASCII, as little-endian numbers.
 pub const CI: u64 = 0x4943;
@@ -89,7 +89,7 @@ fn count_nested(items: &[u8]) -> Nested
 }
 
 pub fn read_circle(r: &[u8]) -> Read
-    ensures { λ x. ⌜ x ≡ readOf (circleOf (now (r .entry))) ⌝ }
+    ensures { λ x. ⌜ x ≡ recordRead (circleOf (now (r .entry))) ⌝ }
 {
     if r.len() < HitObject::CIRCLE_SIZE {
         return Read::Refused(refusal::CUT);
@@ -107,7 +107,7 @@ pub fn read_circle(r: &[u8]) -> Read
 }
 
 pub fn read_slider(r: &[u8]) -> Read
-    ensures { λ x. ⌜ x ≡ readOf (sliderOf (now (r .entry))) ⌝ }
+    ensures { λ x. ⌜ x ≡ recordRead (sliderOf (now (r .entry))) ⌝ }
 {
     if r.len() < HitObject::SLIDER_SIZE {
         return Read::Refused(refusal::CUT);
@@ -136,7 +136,7 @@ pub fn read_slider(r: &[u8]) -> Read
 }
 
 pub fn read_spinner(r: &[u8]) -> Read
-    ensures { λ x. ⌜ x ≡ readOf (spinnerOf (now (r .entry))) ⌝ }
+    ensures { λ x. ⌜ x ≡ recordRead (spinnerOf (now (r .entry))) ⌝ }
 {
     if r.len() < HitObject::SPINNER_SIZE {
         return Read::Refused(refusal::CUT);
@@ -158,7 +158,7 @@ pub fn read_spinner(r: &[u8]) -> Read
 
 // The object behind a mark; any other mark is refused as unknown.
 pub fn read_object(r: &[u8], mark: u64) -> Read
-    ensures { λ x. ⌜ x ≡ readOf (objectOf (now (r .entry)) mark) ⌝ }
+    ensures { λ x. ⌜ x ≡ recordRead (objectOf (now (r .entry)) mark) ⌝ }
 {
     if mark == CI {
         return read_circle(r);

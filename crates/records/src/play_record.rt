@@ -15,7 +15,7 @@ use play_state::score_of;
 use rules::refusal;
 ghost use mathlib.Core.Path.{_≡_};
 ghost use Rattle.play_state.specs.Play.{hitresultsOf};
-ghost use Rattle.records.specs.Records.{readOf, playOf};
+ghost use Rattle.records.specs.Records.{recordRead, playOf};
 
 fn hitresults_of(r: &[u8]) -> OsuHitResults
     ensures { λ x. ⌜ x ≡ hitresultsOf (now (r .entry)) ⌝ }
@@ -32,7 +32,7 @@ fn hitresults_of(r: &[u8]) -> OsuHitResults
 }
 
 pub fn read_play(r: &[u8]) -> Read
-    ensures { λ x. ⌜ x ≡ readOf (playOf (now (r .entry))) ⌝ }
+    ensures { λ x. ⌜ x ≡ recordRead (playOf (now (r .entry))) ⌝ }
 {
     if r.len() < Play::SIZE {
         return Read::Refused(refusal::CUT);

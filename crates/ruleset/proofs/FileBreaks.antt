@@ -14,7 +14,7 @@ use Rattle.rules.specs.Refusals.{good, pick}
 use Rattle.records.specs.Fields.{timed, timeOf, timeLimit}
 use Rattle.records.specs.Records.{Content, header, break, object, play, headerOf, breakOf, playOf, objectOf, circleOf, sliderOf, spinnerOf, CI, SL, SP}
 use Rattle.map_file.specs.Order.{MH, BR, PL, rankOf, inOrder, bodyOf, recordOf}
-use Rattle.map_file.specs.File.{File, countsOf, with-record, fresh}
+use Rattle.map_file.specs.File.{File, countsOf, with-record, nothingRead}
 use Rattle.records.specs.declared.beatmap.BreakPeriod.{BreakPeriod}
 use Rattle.records.specs.declared.fields.Double.the-variants as double
 use Rattle.map_file.specs.declared.file.Counts.{Counts}
@@ -86,7 +86,7 @@ pub record Standing (s : List ℕ) (f : File) : Type 0 where
   pub place : 0 < f .last → f .last ≤ 2 → f .at ≡ 14 + 18 * length (f .map .breaks)
   pub same : breaksIn s (length (f .map .breaks)) ≡ f .map .breaks
 
-pub standing-start : (s : List ℕ) → Standing s fresh
+pub standing-start : (s : List ℕ) → Standing s nothingRead
 unfolding breaksFrom
 standing-start s = record { none-yet = λ _. (refl, refl); place = λ h _. absurd (omega (arith, h)); same = refl }
 

@@ -10,9 +10,9 @@ use lib.Dec.{eqb, ltb}
 use lib.ListN.{length, take, drop}
 use Rattle.rules.specs.Refusals.{Checked, good, refused, pick}
 use Rattle.records.specs.Objects.{Object}
-use Rattle.records.specs.Records.{Content, header, break, object, play, Found, contentView}
+use Rattle.records.specs.Records.{Content, header, break, object, play, FoundRecord, contentView}
 use Rattle.map_file.specs.Order.{recordOf}
-use Rattle.map_file.specs.File.{Map, File, Result, accepted, refusedAt, countsOf, with-record, follow, ended, fileFrom, fresh, fileOf}
+use Rattle.map_file.specs.File.{Map, File, Result, accepted, refusedAt, countsOf, with-record, follow, ended, fileFrom, nothingRead, fileOf}
 use Rattle.map_file.specs.View.{stepOf, countedIn}
 use Rattle.play_state.specs.declared.Play.{Play}
 use Rattle.records.specs.declared.record.Record.{Record}
@@ -88,7 +88,7 @@ from-refuses zero s f n at e = stop-refuses f n at 0 0 e
 from-refuses (suc fuel) s f n at e =
     go (λ r q. from-refuses fuel s (with-record f r) n at (ended-more f n at (r .0) (r .1) (found-ordered s f r q) e)) (ltb (f .at) (length s)) (foundAt s f) refl
   where
-    go : ((r : Content × ℕ) → foundAt s f ≡ good r → Refuses n at (fileFrom fuel s (with-record f r))) → (b : Bool) (x : Found) → foundAt s f ≡ x
+    go : ((r : Content × ℕ) → foundAt s f ≡ good r → Refuses n at (fileFrom fuel s (with-record f r))) → (b : Bool) (x : FoundRecord) → foundAt s f ≡ x
         → Refuses n at (pick b (follow f x (λ r. fileFrom fuel s (with-record f r))) (ended f))
     go on false x q = end-refuses f n at e
     go on true (refused k) q = stop-refuses f n at k (f .at) e
@@ -97,10 +97,10 @@ from-refuses (suc fuel) s f n at e =
 -- ---- what was reached
 pub reached-start : (s : List ℕ) (p i : ℕ) → Reached s p (walkStart p i)
 reached-start s p i = record {
-  file = fresh;
+  file = nothingRead;
   kept = kept-start s;
   sums = refl;
-  map-file = fresh;
+  map-file = nothingRead;
   map-chain = start;
   map-end = refl;
   map-same = refl;
@@ -322,7 +322,7 @@ steps-last {s = s} {p = p} k (more {r = r} {next = next} {o = o} steps h q) e = 
     next-last : next .counts ≡ countedIn (r .counts) (record·case.Object o) → next .counts .last ≡ 3
     next-last c = ap (λ x. x .last) c ∙ counted-last (r .counts) o
 
-    stepped : (x : Found) → step.Next (record·case.Object o) next ≡ stepOf r x → next .counts ≡ countedIn (r .counts) (record·case.Object o)
+    stepped : (x : FoundRecord) → step.Next (record·case.Object o) next ≡ stepOf r x → next .counts ≡ countedIn (r .counts) (record·case.Object o)
     stepped (refused n) e = never (cc)
     stepped (good c) e = let i : record·case.Object o ≡ contentView (c .0) = cc in let n : next .counts ≡ countedIn (r .counts) (contentView (c .0)) = cc in n ∙ ap (countedIn (r .counts)) (sym i)
 

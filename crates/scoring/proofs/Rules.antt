@@ -12,9 +12,9 @@ use Rattle.rules.specs.Refusals.{Checked, good, refused, _>>=_, _>>_, refuse_wh
 use Rattle.records.specs.Fields.{cut, timeOf, durationOf, rateOf, settingOf, timed, set, played}
 use Rattle.records.specs.Objects.{Item}
 use Rattle.play_state.specs.Play.{originOf, scoreOf, flagsBad, originChecked, scoreChecked}
-use Rattle.records.specs.Records.{Content, Found, CI, SL, SP, headerOf, breakOf, circleOf, itemOf, nestedOf, sliderOf, spinnerOf, playOf, objectOf}
+use Rattle.records.specs.Records.{Content, FoundRecord, CI, SL, SP, headerOf, breakOf, circleOf, itemOf, nestedOf, sliderOf, spinnerOf, playOf, objectOf}
 use Rattle.map_file.specs.Order.{MH, BR, PL, rankOf, inOrder, isFull, overBonus, contentBonus, bodyOf, recordOf}
-use Rattle.map_file.specs.File.{File, Result, accepted, refusedAt, countsOf, with-record, follow, ended, fileFrom, fresh, fileOf}
+use Rattle.map_file.specs.File.{File, Result, accepted, refusedAt, countsOf, with-record, follow, ended, fileFrom, nothingRead, fileOf}
 use Rattle.records.specs.declared.fields.Double.{Double}
 use Rattle.records.specs.declared.fields.Double.the-variants as double
 use Rattle.records.specs.declared.fields.Single.{Single}
@@ -179,7 +179,7 @@ ruled-from (suc fuel) s f h =
     (ruled-record (drop (f .at) s) (countsOf f))
   where
     go : ((r : Content × ℕ) → foundAt s f ≡ good r → f .at < length s → RuledFile (fileFrom fuel s (with-record f r)))
-        → (b : Bool) → ltb (f .at) (length s) ≡ b → (x : Found) → foundAt s f ≡ x → Ruled x
+        → (b : Bool) → ltb (f .at) (length s) ≡ b → (x : FoundRecord) → foundAt s f ≡ x → Ruled x
         → RuledFile (pick b (follow f x (λ r. fileFrom fuel s (with-record f r))) (ended f))
     go more false e x q k = ruled-ended f
     go more true e (refused n) q (rule r) = rule r
@@ -187,7 +187,7 @@ ruled-from (suc fuel) s f h =
 
 ruled-file : (s : List ℕ) → RuledFile (fileOf s)
 unfolding fileOf
-ruled-file s = ruled-from (suc (length s)) s fresh (omega arith)
+ruled-file s = ruled-from (suc (length s)) s nothingRead (omega arith)
 
 -- ---- the plays
 pub ruled-score-of : (p : Play) (a : ScoreAttributes) → Ruled (playScore p a)

@@ -12,14 +12,14 @@ use Rattle.numbers.specs.Floats.{whole, _⊗_, _⊘_}
 use Rattle.numbers.proofs.Bounds.{plain, Upto, mul-upto, mul-plain, div-upto, of-itself, upto-trans, cut-mono}
 use Rattle.numbers.proofs.Wholes.{whole-mul, whole-cut, cut-least}
 use Rattle.spinner.specs.HalfSpins.{seconds, totalHalfSpins, requiredHalfSpins}
-use Rattle.spinner.specs.Bonus.{isLarge, isSmall, walked, legacyOf, standardisedOf, largeCount, smallCount}
+use Rattle.spinner.specs.Bonus.{isLarge, isSmall, halfSpinPoints, legacyOf, standardisedOf, largeCount, smallCount}
 use Rattle.spinner.proofs.Walks.{walked-is}
 use Rattle.simulator.specs.Nested.{spinsScore, spinnerScoreOf}
 
-walked-most : (large small b n : ℕ) → small ≤ large → walked large small b n ≤ large * n
-unfolding walked
+walked-most : (large small b n : ℕ) → small ≤ large → halfSpinPoints large small b n ≤ large * n
+unfolding halfSpinPoints
 walked-most large small b zero h = omega arith
-walked-most large small b (suc i) h = one (isLarge b i) (isSmall i) (walked large small b i) (walked-most large small b i h)
+walked-most large small b (suc i) h = one (isLarge b i) (isSmall i) (halfSpinPoints large small b i) (walked-most large small b i h)
   where
     one : (x y : Bool) (u : ℕ) → u ≤ large * i → u + cond x large (cond y small 0) ≤ large * suc i
     one true y u k = omega arith

@@ -4,7 +4,7 @@ use Prim.Native.Nat.{ℕ, zero, suc, _+_, _-_, _*_, _/_}
 use native.Mathlib.Omega.{arith}
 use mathlib.Core.Bool.{Bool, true, false, cond}
 use mathlib.Core.List.{List, [], _∷_, _++_, map}
-use Rattle.spinner.specs.Bonus.{isLarge, isSmall, walked}
+use Rattle.spinner.specs.Bonus.{isLarge, isSmall, halfSpinPoints}
 use Rattle.records.specs.Objects.{Item, tick, repeat, Object, repeats, ticks}
 use Rattle.simulator.specs.Hits.{Hit, itemHit, halfSpin, halfSpins, hitsOf, smallBonus, largeBonus}
 use Rattle.simulator.specs.Walk.{State, fresh, hit, walk, after}
@@ -32,13 +32,13 @@ walk-items m (repeat ∷ is) c a p l s =
     walk-items m is (c + 1) (a + 30) (p + 0) (l + 0) (s + 0) ∙ state-same (omega arith) (omega arith) (omega arith) (omega arith) (omega arith)
 
 -- the half spins: both bonus sums are those of the walk over the points
-pub walk-spins : (m b n c a p l s : ℕ) → walk m (state c a p l s) (halfSpins b n) ≡ state c a p (l + walked 1100 100 b n) (s + walked 50 10 b n)
-unfolding walk halfSpins walked
+pub walk-spins : (m b n c a p l s : ℕ) → walk m (state c a p l s) (halfSpins b n) ≡ state c a p (l + halfSpinPoints 1100 100 b n) (s + halfSpinPoints 50 10 b n)
+unfolding walk halfSpins halfSpinPoints
 walk-spins m b zero c a p l s = state-same refl refl refl (omega arith) (omega arith)
 walk-spins m b (suc i) c a p l s =
     walk-append m (state c a p l s) (halfSpins b i) (halfSpin b i)
     ∙ ap (λ (st : State). walk m st (halfSpin b i)) (walk-spins m b i c a p l s)
-    ∙ one (isLarge b i) (isSmall i) (walked 1100 100 b i) (walked 50 10 b i)
+    ∙ one (isLarge b i) (isSmall i) (halfSpinPoints 1100 100 b i) (halfSpinPoints 50 10 b i)
   where
     one : (x y : Bool) (u v : ℕ)
         → walk m (state c a p (l + u) (s + v)) (cond x (largeBonus ∷ []) (cond y (smallBonus ∷ []) []))

@@ -5,7 +5,7 @@ use native.Mathlib.Omega.{arith}
 use mathlib.Core.Bool.{Bool, true, false, not, cond, _&&_}
 use lib.Dec.{T, ltb, eqb, ltb→lt, nltb→le, eqb→eq}
 use borrow.Author.Tests.{eqb-false}
-use Rattle.spinner.specs.Bonus.{isLarge, isSmall, walked, largeCount, smallCount}
+use Rattle.spinner.specs.Bonus.{isLarge, isSmall, halfSpinPoints, largeCount, smallCount}
 
 -- one more step, by what it adds
 add-large : (l s L S L′ S′ : ℕ) → L′ ≡ L + 1 → S′ ≡ S → l * L + s * S + l ≡ l * L′ + s * S′
@@ -82,8 +82,8 @@ none l s x y p q = sym (ap (λ (z : ℕ). l * z + s * x) q ∙ ap (λ (z : ℕ).
     all : (l s : ℕ) → l * 0 + s * 0 ≡ 0
     all l s = omega arith
 
-first : (l s b : ℕ) → walked l s b 1 ≡ l * largeCount b 0 + s * smallCount b 0
-unfolding walked
+first : (l s b : ℕ) → halfSpinPoints l s b 1 ≡ l * largeCount b 0 + s * smallCount b 0
+unfolding halfSpinPoints
 first l s b = start (ltb b 0) (says-lt b 0) (eqb (b % 2) 0)
   where
     start : (p : Bool) → Says p (b < 0) (0 ≤ b) → (q : Bool) → 0 + cond (p && eqb ((0 - b) % 2) 0) l 0 ≡ l * ((0 - b) / 2) + s * cond q (min 0 b / 2) 0
@@ -91,13 +91,13 @@ first l s b = start (ltb b 0) (says-lt b 0) (eqb (b % 2) 0)
     start false f true = none l s (min 0 b / 2) ((0 - b) / 2) (omega arith) (omega arith)
     start false f false = none l s 0 ((0 - b) / 2) refl (omega arith)
 
-pub walked-is : (l s b t : ℕ) → walked l s b (suc t) ≡ l * largeCount b t + s * smallCount b t
-unfolding walked
+pub walked-is : (l s b t : ℕ) → halfSpinPoints l s b (suc t) ≡ l * largeCount b t + s * smallCount b t
+unfolding halfSpinPoints
 walked-is l s b zero = first l s b
 walked-is l s b (suc t) = ap (λ (x : ℕ). x + cond (isLarge b (suc t)) l (cond (isSmall (suc t)) s 0)) (walked-is l s b t) ∙ next l s b t
 
 -- the points of the walk to t, from the two counts
-pub points-is : (l s b t L S : ℕ) → L ≡ largeCount b t → S ≡ smallCount b t → L * l + S * s ≡ walked l s b (suc t)
+pub points-is : (l s b t L S : ℕ) → L ≡ largeCount b t → S ≡ smallCount b t → L * l + S * s ≡ halfSpinPoints l s b (suc t)
 points-is l s b t L S p q =
     turn l s L S ∙ ap (λ (x : ℕ). l * x + s * S) p ∙ ap (λ (x : ℕ). l * largeCount b t + s * x) q ∙ sym (walked-is l s b t)
   where

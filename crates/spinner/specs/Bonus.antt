@@ -15,15 +15,15 @@ abbrev pub isSmall : ℕ → Bool
 isSmall i = ltb 1 i && eqb (i % 2) 0
 
 -- the points of the half spins 0 to n - 1, a large bonus and a small one given
-unfoldable pub walked : ℕ → ℕ → ℕ → ℕ → ℕ
-walked large small b zero = 0
-walked large small b (suc i) = walked large small b i + cond (isLarge b i) large (cond (isSmall i) small 0)
+unfoldable pub halfSpinPoints : ℕ → ℕ → ℕ → ℕ → ℕ
+halfSpinPoints large small b zero = 0
+halfSpinPoints large small b (suc i) = halfSpinPoints large small b i + cond (isLarge b i) large (cond (isSmall i) small 0)
 
 unfoldable pub legacyOf : Float → ℕ
-legacyOf d = walked 1100 100 (requiredHalfSpins d + 3) (suc (totalHalfSpins d))
+legacyOf d = halfSpinPoints 1100 100 (requiredHalfSpins d + 3) (suc (totalHalfSpins d))
 
 unfoldable pub standardisedOf : Float → ℕ
-standardisedOf d = walked 50 10 (requiredHalfSpins d + 3) (suc (totalHalfSpins d))
+standardisedOf d = halfSpinPoints 50 10 (requiredHalfSpins d + 3) (suc (totalHalfSpins d))
 
 -- how many half spins of the walk to t earn each bonus, in closed form
 abbrev pub largeCount : ℕ → ℕ → ℕ

@@ -2,7 +2,7 @@
 use mathlib.Core.Path.{_≡_, sym, ap, _∙_, subst}
 use borrow.Author.Needs.{needs}
 use borrow.Author.Tests.{eq-eqb, ne-eqb}
-use Rattle.records.specs.Records.{readOf, objectOf}
+use Rattle.records.specs.Records.{recordRead, objectOf}
 use Rattle.records.specs.declared.record.Read.{Read}
 use Rattle.board_build.specs.Laying.{LaysRead, readLaid}
 use Rattle.board_build.proofs.lay_object.Statement.{statement}
@@ -11,7 +11,7 @@ use Rattle.board_build.proofs.lay_object.Tie as tie
 read-circle-requires : tie.Need-read-circle-requires
 read-circle-requires c κs = search needs
 
-circle-found : (c : tie.After-read-circle) → let a = c .before .before .before .before .before .args in readOf (objectOf (a .r .now) (a .mark)) ≡ c .read-circle .result
+circle-found : (c : tie.After-read-circle) → let a = c .before .before .before .before .before .args in recordRead (objectOf (a .r .now) (a .mark)) ≡ c .read-circle .result
 unfolding objectOf
 circle-found c = simp (eq-eqb _ _ (c .before .if1 .taken)) (sym (c .read-circle .ensures))
 
@@ -38,7 +38,7 @@ returns c =
 read-slider-requires : tie.Need-read-slider-requires
 read-slider-requires c κs = search needs
 
-slider-found : (c : tie.After-read-slider) → let a = c .before .before .before .before .before .before .args in readOf (objectOf (a .r .now) (a .mark)) ≡ c .read-slider .result
+slider-found : (c : tie.After-read-slider) → let a = c .before .before .before .before .before .before .args in recordRead (objectOf (a .r .now) (a .mark)) ≡ c .read-slider .result
 unfolding objectOf
 slider-found c = simp (ne-eqb _ _ (c .before .before .if1 .left), eq-eqb _ _ (c .before .if2 .taken)) (sym (c .read-slider .ensures))
 
@@ -65,7 +65,7 @@ returns-2 c =
 read-spinner-requires : tie.Need-read-spinner-requires
 read-spinner-requires c κs = search needs
 
-spinner-found : (c : tie.After-read-spinner) → let a = c .before .before .before .before .before .before .before .args in readOf (objectOf (a .r .now) (a .mark)) ≡ c .read-spinner .result
+spinner-found : (c : tie.After-read-spinner) → let a = c .before .before .before .before .before .before .before .args in recordRead (objectOf (a .r .now) (a .mark)) ≡ c .read-spinner .result
 unfolding objectOf
 spinner-found c = simp (ne-eqb _ _ (c .before .before .before .if1 .left), ne-eqb _ _ (c .before .before .if2 .left), eq-eqb _ _ (c .before .if3 .taken)) (sym (c .read-spinner .ensures))
 

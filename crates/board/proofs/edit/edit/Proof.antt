@@ -17,7 +17,7 @@ use Rattle.entries.specs.declared.entry.Entry.{Entry}
 use Rattle.tree.specs.Size.{levelsOf, capOf}
 use Rattle.tree.specs.declared.Put.{Put}
 use Rattle.tree.proofs.Levels.{levels-hold}
-use Rattle.board.specs.Place.{putAt, writtenOf, writtenLeft}
+use Rattle.board.specs.Place.{putPlace, writtenOf, writtenLeft}
 use Rattle.board.specs.declared.place.Written.{Written}
 use Rattle.board.proofs.Rooms as rooms
 use Rattle.board.proofs.Edits as edits
@@ -146,7 +146,7 @@ returns-4 c =
     let same = edits.same-put (a .place) b ts (edits.size-is (at6 .size .given .0 .0) (a .count) b ts (room .1)) own start in
     ap (λ (r : Written). (r, at1 .put-at .last .0, at1 .put-at .last .1 .0)) (c .written .ensures)
     ∙ ap (λ (z : Put × List ℕ × List Float). (writtenOf (z .0), z .1, z .2)) (at1 .put-at .ensures)
-    ∙ edits.written-left (putAt (at6 .size .given .0 .0) (a .place) (at2 .own .result) (at3 .object .given .0 .0 .«start_time») b ts) b ts
+    ∙ edits.written-left (putPlace (at6 .size .given .0 .0) (a .place) (at2 .own .result) (at3 .object .given .0 .0 .«start_time») b ts) b ts
     ∙ ap (λ (x : Checked (List ℕ × List Float)). writtenLeft x (a .board .now) (a .starts .now)) (same ∙ sym (edits.puts (a .board .now) (a .starts .now) (a .count) (a .place) (a .bytes .now) (room .0) (at5 .if1 .left) (found .found) (found .read)))
 
 pub edit-spec : {M : Type 1} → statement M

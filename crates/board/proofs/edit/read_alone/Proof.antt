@@ -3,7 +3,7 @@ use Prim.Native.Nat.{ℕ}
 use mathlib.Core.Path.{_≡_, sym, ap, _∙_}
 use native.Mathlib.Omega.{arith}
 use Rattle.numbers.specs.Words.{wordAt}
-use Rattle.records.specs.Records.{objectOf, readOf}
+use Rattle.records.specs.Records.{objectOf, recordRead}
 use Rattle.rules.proofs.Laws.{so}
 use Rattle.board.specs.Edit.{aloneOf}
 use Rattle.board.proofs.Alones as alones
@@ -39,7 +39,7 @@ returns-3 c =
     let at4 = at3 .before in
     let at5 = at4 .before .before .before in
     let mark : at3 .word-at .result ≡ wordAt (at5 .args .r .now) 0 2 = at3 .word-at .ensures .0 in
-    let found = so (at1 .item .given .1) (at2 .read-object .ensures) ∙ ap (λ (m : ℕ). readOf (objectOf (at5 .args .r .now) m)) mark in
+    let found = so (at1 .item .given .1) (at2 .read-object .ensures) ∙ ap (λ (m : ℕ). recordRead (objectOf (at5 .args .r .now) m)) mark in
     sym (ap aloneOf (alones.longer (at5 .args .r .now) (at4 .if2 .left) _ _ found (c .if3 .taken)))
 
 object-only-requires : tie.Need-object-only-requires
@@ -52,7 +52,7 @@ returns-4 c =
     let at3 = at2 .before in
     let at4 = at3 .before .before .before in
     let mark : at2 .word-at .result ≡ wordAt (at4 .args .r .now) 0 2 = at2 .word-at .ensures .0 in
-    let found = so (c .before .number .given .1) (at1 .read-object .ensures) ∙ ap (λ (m : ℕ). readOf (objectOf (at4 .args .r .now) m)) mark in
+    let found = so (c .before .number .given .1) (at1 .read-object .ensures) ∙ ap (λ (m : ℕ). recordRead (objectOf (at4 .args .r .now) m)) mark in
     sym (ap aloneOf (alones.not-read (at4 .args .r .now) (at3 .if2 .left) _ found))
 
 returns-5 : tie.Need-returns-5
@@ -63,7 +63,7 @@ returns-5 c =
     let at4 = at3 .before in
     let at5 = at4 .before .before .before in
     let mark : at3 .word-at .result ≡ wordAt (at5 .args .r .now) 0 2 = at3 .word-at .ensures .0 in
-    let found = so (at1 .item .given .1) (at2 .read-object .ensures) ∙ ap (λ (m : ℕ). readOf (objectOf (at5 .args .r .now) m)) mark in
+    let found = so (at1 .item .given .1) (at2 .read-object .ensures) ∙ ap (λ (m : ℕ). recordRead (objectOf (at5 .args .r .now) m)) mark in
     c .object-only .ensures ∙ alones.ends (at5 .args .r .now) (at4 .if2 .left) _ _ found (c .before .if3 .left)
 
 pub read-alone-spec : {M : Type 1} → statement M

@@ -5,7 +5,7 @@ use native.Mathlib.Omega.{arith}
 use lib.ListN.{length}
 use denote.Ref.{now}
 use borrow.Author.Needs.{needs}
-use Rattle.map_file.specs.File.{fresh}
+use Rattle.map_file.specs.File.{nothingRead}
 use Rattle.map_file.specs.View.{answerOf}
 use Rattle.rules.proofs.Laws.{so}
 use Rattle.map_file.proofs.Reading.{Reading, kept-start, kept-step, kept-stop, end-none, end-map}
@@ -23,7 +23,7 @@ new-requires : tie.Need-new-requires Inv-loop μ-loop
 new-requires c κs = search needs
 
 loop-holds : tie.Need-loop-holds Inv-loop μ-loop
-loop-holds c = record { file = fresh; kept = rw (c .new .ensures) (kept-start (now (c .before .before .args .s))) }
+loop-holds c = record { file = nothingRead; kept = rw (c .new .ensures) (kept-start (now (c .before .before .args .s))) }
 
 read-record-requires : tie.Need-read-record-requires Inv-loop μ-loop
 read-record-requires c κs = search needs

@@ -6,7 +6,7 @@ use native.Mathlib.Omega.{arith}
 use lib.ListN.{length, drop, length-drop, drop-of-length-le}
 use denote.Ref.{now}
 use Rattle.rules.specs.Refusals.{_>>=_, _>>_, refuse_when_}
-use Rattle.records.specs.Records.{readOf}
+use Rattle.records.specs.Records.{recordRead}
 use Rattle.map_file.specs.Order.{recordOf}
 use Rattle.rules.proofs.Laws.{so}
 use Rattle.map_file.proofs.Sizes.{record-sized}
@@ -43,7 +43,7 @@ add-t15 c =
     let at1 = c .before in
     let at2 = at1 .before .before in
     let at3 = at2 .before .before .before .before .before in
-    let h = read-size (recordOf (drop (at3 .args .reader .at) (now (at3 .args .s))) (at3 .args .reader .counts)) _ _ (so (at1 .item .given .1) (at2 .read-next .ensures ∙ ap (λ (l : List ℕ). readOf (recordOf l (at3 .args .reader .counts))) (rest-is (now (at3 .args .s)) (at3 .args .reader .at)))) (drop (at3 .args .reader .at) (now (at3 .args .s))) (record-sized _ _) in
+    let h = read-size (recordOf (drop (at3 .args .reader .at) (now (at3 .args .s))) (at3 .args .reader .counts)) _ _ (so (at1 .item .given .1) (at2 .read-next .ensures ∙ ap (λ (l : List ℕ). recordRead (recordOf l (at3 .args .reader .counts))) (rest-is (now (at3 .args .s)) (at3 .args .reader .at)))) (drop (at3 .args .reader .at) (now (at3 .args .s))) (record-sized _ _) in
     omega (arith, h .1, length-drop (at3 .args .reader .at) (now (at3 .args .s)))
 
 settings-after-requires : tie.Need-settings-after-requires
@@ -54,14 +54,14 @@ count-requires c κs =
     let at1 = c .before .before in
     let at2 = at1 .before .before in
     let at3 = at2 .before .before .before .before .before in
-    read-fits (recordOf (drop (at3 .args .reader .at) (now (at3 .args .s))) (at3 .args .reader .counts)) _ _ (so (at1 .item .given .1) (at2 .read-next .ensures ∙ ap (λ (l : List ℕ). readOf (recordOf l (at3 .args .reader .counts))) (rest-is (now (at3 .args .s)) (at3 .args .reader .at)))) (at3 .args .reader .counts) (record-fits _ _)
+    read-fits (recordOf (drop (at3 .args .reader .at) (now (at3 .args .s))) (at3 .args .reader .counts)) _ _ (so (at1 .item .given .1) (at2 .read-next .ensures ∙ ap (λ (l : List ℕ). recordRead (recordOf l (at3 .args .reader .counts))) (rest-is (now (at3 .args .s)) (at3 .args .reader .at)))) (at3 .args .reader .counts) (record-fits _ _)
 
 returns-2 : tie.Need-returns-2
 returns-2 c =
     let at1 = c .before in
     let at2 = at1 .before .before in
     let at3 = at2 .before .before .before .before .before in
-    read-refused (recordOf (drop (at3 .args .reader .at) (now (at3 .args .s))) (at3 .args .reader .counts)) _ (at3 .args .reader) (so (at1 .number .given .1) (at2 .read-next .ensures ∙ ap (λ (l : List ℕ). readOf (recordOf l (at3 .args .reader .counts))) (rest-is (now (at3 .args .s)) (at3 .args .reader .at))))
+    read-refused (recordOf (drop (at3 .args .reader .at) (now (at3 .args .s))) (at3 .args .reader .counts)) _ (at3 .args .reader) (so (at1 .number .given .1) (at2 .read-next .ensures ∙ ap (λ (l : List ℕ). recordRead (recordOf l (at3 .args .reader .counts))) (rest-is (now (at3 .args .s)) (at3 .args .reader .at))))
 
 returns-3 : tie.Need-returns-3
 returns-3 c =
@@ -69,7 +69,7 @@ returns-3 c =
     let at2 = at1 .before .before in
     let at3 = at2 .before .before in
     let at4 = at3 .before .before .before .before .before in
-    read-next (recordOf (drop (at4 .args .reader .at) (now (at4 .args .s))) (at4 .args .reader .counts)) _ _ (so (at2 .item .given .1) (at3 .read-next .ensures ∙ ap (λ (l : List ℕ). readOf (recordOf l (at4 .args .reader .counts))) (rest-is (now (at4 .args .s)) (at4 .args .reader .at)))) (at4 .args .reader) _ _ (at1 .settings-after .ensures) (c .count .ensures)
+    read-next (recordOf (drop (at4 .args .reader .at) (now (at4 .args .s))) (at4 .args .reader .counts)) _ _ (so (at2 .item .given .1) (at3 .read-next .ensures ∙ ap (λ (l : List ℕ). recordRead (recordOf l (at4 .args .reader .counts))) (rest-is (now (at4 .args .s)) (at4 .args .reader .at)))) (at4 .args .reader) _ _ (at1 .settings-after .ensures) (c .count .ensures)
 
 pub read-record-spec : {M : Type 1} → statement M
 read-record-spec =

@@ -1,4 +1,4 @@
-//! A proved score engine for a rhythm game.
+//! A proved score engine for the game osu!.
 //!
 //! It reads a map file, simulates ScoreV1 and estimates how many notes a player missed. The
 //! functions behind this crate are proved in Rattle: they end, read nothing outside their input,

@@ -14,7 +14,8 @@
 //! - Raw: [`sys`].
 //!
 //! No call panics, whatever its input. An input that breaks a rule gets an [`Error`] with that rule's
-//! number and the offset of the record that breaks it; [`explain`] shows that record.
+//! number and the offset of the record that breaks it; [`explain`] shows that record. The records, the
+//! rules and the order of their checks are those of `docs/FORMAT.md` in the repository.
 
 #![warn(missing_docs)]
 

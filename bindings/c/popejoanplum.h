@@ -98,7 +98,7 @@ typedef struct {
 /* ScoreV1 of a map's first objects. */
 typedef struct {
     uint64_t object_count;             /* how many objects: all, or those that the play passed */
-    uint64_t multiplier;               /* the score multiplier of the settings, the drain and the objects; 0 to 7 for an accepted map */
+    uint64_t multiplier;               /* the score multiplier of the settings, the drain and the objects, 0 to 7 (ruleset::score_multiplier) */
     uint64_t accuracy_score;           /* points of the hits */
     uint64_t combo_score;              /* points of the combo, the multiplier in them */
     uint64_t legacy_bonus_score;       /* the spinners' bonus points in ScoreV1 .. */

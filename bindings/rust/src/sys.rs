@@ -59,7 +59,7 @@ pub struct Play {
 pub struct Attributes {
     /// How many objects are passed.
     pub object_count: u64,
-    /// The score multiplier of the map; 0 to 7 where it is accepted.
+    /// The score multiplier of the map, 0 to 7.
     pub multiplier: u64,
     pub accuracy_score: u64,
     /// The combo points, with the multiplier in them.

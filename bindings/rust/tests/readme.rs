@@ -67,7 +67,9 @@ fn commands_print_what_is_shown() {
     let folder = Path::new(env!("CARGO_TARGET_TMPDIR")).join("readme");
     let _ = fs::remove_dir_all(&folder);
     let built = folder.join("bindings/rust/target");
-    fs::create_dir_all(&built).unwrap();
+    for made in [&built, &folder.join("target")] {
+        fs::create_dir_all(made).unwrap();
+    }
     symlink(programs, built.join("release")).unwrap();
     symlink(root().join("examples"), folder.join("examples")).unwrap();
 

@@ -1,8 +1,9 @@
 /* Popejoanplum: the score engine for hosts in C and C++ on x86-64 Linux. Link libpopejoanplum.a, which `rt staticlib popejoanplum` writes; of the C
  * library it takes memcpy and memset, and nothing else.
  *
- * Every function is proved: it ends, reads and writes nothing outside the memory that is lent to it, and gives the value that its definition says
- * (crates/popejoanplum). That holds for every byte, number and length that a caller passes, a board that no build made included.
+ * Every function of the archive is proved: it ends, reads and writes nothing outside the memory that is lent to it, and gives the value that its
+ * definition says (crates/popejoanplum). That holds for every byte, number and length that a caller passes, a board that no build made included.
+ * pjp_copy_breaks, below, is plain C of this header and not proved.
  *
  * What a caller owes, as C cannot be held to it:
  *   - each pointer is valid for as many elements as the length behind it says; (NULL, 0) is fine;
@@ -11,9 +12,10 @@
  *   - nobody else writes to a slice during a call.
  * The functions keep no state and allocate nothing, so threads may call them at once on memory of their own.
  *
- * Numbers, limits, records and refusals are those of the scope document ("document 01"). A map file is a run of records without padding, numbers
- * little-endian, each with a mark of two ASCII letters: MH once (hp, od, cs as floats), any BR (start, end as doubles), any objects (CI: start; SL:
- * start, count uint16_t, that many bytes of 0 tick, 1 repeat, 2 tail, the last one the only tail; SP: start, duration), any PL (plays).
+ * docs/FORMAT.md has the map file by offsets, every refusal, the order of the checks, and the board's words. In short, a map file is a run of records
+ * without padding, numbers little-endian, each with a mark of two ASCII letters: MH once (hp, od, cs as floats), any BR (start, end as doubles), any
+ * objects (CI: start; SL: start, count uint16_t, that many bytes of 0 tick, 1 repeat, 2 tail, the last one the only tail; SP: start, duration), any PL
+ * (plays).
  */
 #ifndef POPEJOANPLUM_H
 #define POPEJOANPLUM_H
@@ -79,9 +81,9 @@ typedef struct {
 typedef struct {
     double clock_rate;        /* above 0 and at most 100; 1 is the map's own speed */
     uint32_t max_combo;       /* the play's highest combo */
-    uint32_t large_tick_hits; /* with origin 1 at most ticks and repeats; 0 for stable */
-    uint32_t small_tick_hits;
-    uint32_t slider_end_hits; /* with origin 1 at most sliders; 0 for stable */
+    uint32_t large_tick_hits; /* with origin 1 at most ticks and repeats; not used with origin 0 */
+    uint32_t small_tick_hits; /* used with origin 2 alone */
+    uint32_t slider_end_hits; /* with origin 1 at most sliders; not used with the others */
     uint32_t score;           /* the legacy total score; 0 where has_score is 0 */
     uint16_t passed_objects;  /* the play is on the map's first objects: this many, or all if the map has fewer */
     uint16_t n300;            /* the four judgements together are at most the passed objects */
@@ -96,13 +98,14 @@ typedef struct {
 /* ScoreV1 of a map's first objects. */
 typedef struct {
     uint64_t object_count;             /* how many objects: all, or those that the play passed */
-    uint64_t multiplier;               /* the score multiplier of the settings, the drain and the objects, 0 to 7 */
+    uint64_t multiplier;               /* the score multiplier of the settings, the drain and the objects, 0 to 7 (ruleset::score_multiplier) */
     uint64_t accuracy_score;           /* points of the hits */
     uint64_t combo_score;              /* points of the combo, the multiplier in them */
     uint64_t legacy_bonus_score;       /* the spinners' bonus points in ScoreV1 .. */
     uint64_t standardised_bonus_score; /* .. and in standardised score */
     double bonus_score_ratio;          /* standardised / legacy, 0 if legacy is 0 */
-    double nested_score_per_object;    /* points of nested items and spins for each object; not a number where there is no object */
+    double nested_score_per_object;    /* points of nested items and spins / object_count: with no object not a number, or an infinity where a board
+                                        * that no build made has points without an object */
     uint32_t max_combo;                /* the highest combo that the objects give */
     uint32_t n_circles;
     uint32_t n_sliders;
@@ -113,10 +116,10 @@ typedef struct {
 
 /* How many notes a play missed. */
 typedef struct {
-    double accuracy;         /* 0 to 1 */
+    double accuracy;         /* judgements, and slider hits as the origin counts them, over the most that they can be; 0 where that is 0 */
     double combo_based;      /* misses as estimated from the combo */
     double score_based;      /* misses as estimated from the score; 0 where has_score_based is 0 */
-    double effective;        /* the estimate to use: from the misses to the judgements */
+    double effective;        /* the estimate to use: from the misses to the judgements (estimates/proofs/Range) */
     uint8_t has_score_based; /* 1 if score_based is there: a score, an origin other than 1, and at least one judgement */
 } pjp_estimates;
 
@@ -168,9 +171,11 @@ pjp_play_answer pjp_score_play_at(const uint8_t *file, size_t length, uint64_t i
 pjp_status pjp_build(const uint8_t *file, size_t length, uint64_t *board, size_t words, double *starts, size_t numbers);
 
 /* Puts the object of a record (CI, SL or SP, from its mark on, and nothing behind it) at a place of a board for `count` objects, and its start into
- * the start table. Refuses with offset 0: PJP_COUNT, PJP_ROOM, PJP_PLACE, then what is wrong with the record (PJP_CUT, PJP_MARK, PJP_RANGE,
- * PJP_COUNT, PJP_NESTED), then PJP_BOARD or PJP_BONUS by the words that it reads. On a board that a build made and only edits changed, with the map's
- * count, it succeeds exactly when the map with that object in place is accepted. A refused edit writes nothing. */
+ * the start table. Refuses with offset 0: PJP_COUNT, PJP_ROOM, PJP_PLACE, then what is wrong with the record, in this order: PJP_MARK if it is empty,
+ * PJP_CUT if it has one byte, PJP_MARK for another mark, PJP_CUT for what comes before a list, PJP_RANGE for times, PJP_COUNT for the nested items,
+ * PJP_CUT for their list, PJP_NESTED, and last PJP_MARK for bytes behind it; then PJP_BOARD or PJP_BONUS by the words that it reads. On a board that a
+ * build made and only edits changed, with the map's count, it succeeds exactly when the map with that object in place is accepted. A refused edit
+ * writes nothing. */
 pjp_status pjp_edit(
     uint64_t *board, size_t words, double *starts, size_t numbers, size_t count, size_t place, const uint8_t *record, size_t length);
 
@@ -190,8 +195,8 @@ pjp_play_answer pjp_read(
     pjp_play play);
 
 /* Copies the start and the end of each break of an ACCEPTED map file to `times`, which has room for twice `breaks`, the number that pjp_read_map told
- * of that file: the header takes 14 bytes, each break 18, of which 2 are its mark. Of another file it may read past the end. The machines that the
- * archive is for are little-endian, as the file is. */
+ * of that file: the header takes 14 bytes, each break 18, of which 2 are its mark. Of another file it may read past the end. It is not of the archive
+ * and not proved. The machines that the archive is for are little-endian, as the file is. */
 static inline void pjp_copy_breaks(const uint8_t *file, uint64_t breaks, double *times) {
     uint64_t i;
     for (i = 0; i < breaks; i++)

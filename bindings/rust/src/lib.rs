@@ -1,4 +1,4 @@
-//! A proved score engine for a rhythm game.
+//! A proved score engine for the game osu!.
 //!
 //! It reads a map file, simulates ScoreV1 and estimates how many notes a player missed. The
 //! functions behind this crate are proved in Rattle: they end, read nothing outside their input,
@@ -14,7 +14,8 @@
 //! - Raw: [`sys`].
 //!
 //! No call panics, whatever its input. An input that breaks a rule gets an [`Error`] with that rule's
-//! number and the offset of the record that breaks it; [`explain`] shows that record.
+//! number and the offset of the record that breaks it; [`explain`] shows that record. The records, the
+//! rules and the order of their checks are those of `docs/FORMAT.md` in the repository.
 
 #![warn(missing_docs)]
 

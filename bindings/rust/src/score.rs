@@ -9,7 +9,8 @@ use crate::{
 /// What is estimated of a play.
 #[derive(Clone, Copy, Debug, PartialEq)]
 pub struct Estimates {
-    /// By the judgements and the slider hits, as the origin counts them.
+    /// The judgements, and the slider hits as the origin counts them, over the most that they can be;
+    /// 0 where that is 0.
     pub accuracy: f64,
     /// Misses by the combo.
     pub combo_based: f64,

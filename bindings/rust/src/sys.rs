@@ -70,7 +70,8 @@ pub struct Attributes {
     pub standardised_bonus_score: u64,
     /// Standardised bonus over legacy bonus, 0 where there is no legacy bonus.
     pub bonus_score_ratio: f64,
-    /// Points of nested items and spinners for each object; not a number where no object is passed.
+    /// Points of nested items and spinners over the passed objects: not a number where there is none,
+    /// or an infinity where a board that no build made has points without an object.
     pub nested_score_per_object: f64,
     pub max_combo: u32,
     pub n_circles: u32,

@@ -5,12 +5,35 @@ use std::{
     process::{Command, Output, Stdio},
 };
 
-use oracle::{
-    encode::encode,
-    generate::{self, damage::damaged_file},
-    listing::listing,
-    reader::{PROGRAM_LIMIT, read_library, read_program},
-};
+use popejoanplum::{LISTING_LIMIT, MapFile, refusal_line, score_map};
+
+/// The stored rows of `replay`, as vectors/README.md has them: refused files, and accepted ones with
+/// the Rust's listing. Of each its kind, the text that is due, and the file.
+fn rows() -> Vec<(u8, String, Vec<u8>)> {
+    let stored = concat!(env!("CARGO_MANIFEST_DIR"), "/../../crates/replay/stdin");
+    let stored = std::fs::read(stored).unwrap();
+    let mut rest = &stored[..];
+    let mut rows = Vec::new();
+    while let Some((&kind, behind)) = rest.split_first() {
+        let (due, behind) = sized(behind);
+        let (file, behind) = sized(behind);
+        rows.push((kind, text(due).to_owned(), file.to_vec()));
+        rest = behind;
+    }
+    rows
+}
+
+/// Bytes behind their length, and what follows them.
+fn sized(bytes: &[u8]) -> (&[u8], &[u8]) {
+    let (length, rest) = bytes.split_first_chunk().expect("a length");
+    rest.split_at(u32::from_le_bytes(*length) as usize)
+}
+
+/// Accepted files with the Rust's listing.
+fn good_files() -> impl Iterator<Item = (String, Vec<u8>)> {
+    let accepted = rows().into_iter().filter(|(kind, ..)| *kind == 2);
+    accepted.map(|(_, due, file)| (due, file))
+}
 
 fn run(arguments: &[&str], input: &[u8]) -> Output {
     let mut child = Command::new(env!("CARGO_BIN_EXE_maptext"))
@@ -41,22 +64,24 @@ fn text(bytes: &[u8]) -> &str {
 
 #[test]
 fn lists_as_the_rust_does() {
-    let good = (0..60).map(|index| encode(&generate::map_file(71, index)));
-    let damaged = (0..120).map(|index| damaged_file(71, index).0);
-    let long = [PROGRAM_LIMIT, PROGRAM_LIMIT + 1, 300_000].map(|size| vec![0; size]);
-    for file in good.chain(damaged).chain(long) {
-        let read = read_program(&file);
+    let short = good_files().filter(|(_, file)| file.len() <= LISTING_LIMIT);
+    for (due, file) in short {
         let output = run(&["list"], &file);
-        assert_eq!(text(&output.stdout), listing(&read));
-        assert_eq!(code(&output), i32::from(read.is_err()));
+        assert_eq!((code(&output), text(&output.stdout)), (0, &due[..]));
+        assert!(output.stderr.is_empty());
+    }
+    for size in [LISTING_LIMIT, LISTING_LIMIT + 1, 300_000] {
+        let output = run(&["list"], &vec![0; size]);
+        let number = if size > LISTING_LIMIT { 1 } else { 3 };
+        let due = format!("refused {number} at 0\n");
+        assert_eq!((code(&output), text(&output.stdout)), (1, &due[..]));
         assert!(output.stderr.is_empty());
     }
 }
 
 #[test]
 fn shows_and_assembles() {
-    for index in 0..60 {
-        let file = encode(&generate::map_file(72, index));
+    for (_, file) in good_files().take(60) {
         let shown = run(&["show"], &file);
         assert_eq!((code(&shown), text(&shown.stderr)), (0, ""));
         let back = run(&["assemble"], &shown.stdout);
@@ -68,25 +93,24 @@ fn shows_and_assembles() {
 #[test]
 fn a_refused_file_is_told() {
     let mut refused = 0;
-    for index in 0..60 {
-        let (file, _) = damaged_file(73, index);
-        let Err(refusal) = read_library(&file) else {
+    for (_, due, file) in rows() {
+        let Err(error) = score_map(&file) else {
             continue;
         };
         refused += 1;
-        let line = format!("refused {} at {}\n", refusal.number, refusal.offset);
+        let line = refusal_line(&error);
         let shown = run(&["show"], &file);
         assert_eq!(code(&shown), 1);
         assert!(text(&shown.stderr).starts_with(&format!("{}: ", line.trim_end())));
         assert!(shown.stdout.is_empty());
-        let rule = format!("rule {}: ", refusal.number);
+        let rule = format!("rule {}: ", error.number());
         let explained = run(&["show", "--explain"], &file);
         assert_eq!(code(&explained), 1);
         assert!(text(&explained.stderr).starts_with(&format!("{line}{rule}")));
         let listed = run(&["list", "--explain"], &file);
         assert_eq!(code(&listed), 1);
-        if file.len() <= PROGRAM_LIMIT {
-            assert_eq!(text(&listed.stdout), line);
+        if file.len() <= LISTING_LIMIT {
+            assert_eq!((&due, text(&listed.stdout)), (&line, &line[..]));
             assert!(text(&listed.stderr).starts_with(&rule));
         }
     }
@@ -136,7 +160,7 @@ fn failing_output_is_told() {
         .write(true)
         .open("/dev/full")
         .unwrap();
-    let file = encode(&generate::map_file(74, 0));
+    let file = MapFile::default().to_bytes();
     let mut child = Command::new(env!("CARGO_BIN_EXE_maptext"))
         .arg("list")
         .stdin(Stdio::piped())

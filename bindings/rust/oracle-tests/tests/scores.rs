@@ -1,13 +1,13 @@
 //! Scores from files and from data, beside the Rust that the library is ported from.
 
-mod common;
-
-use common::{AttributesBits, answer, due, due_answer, due_score, map_file, refused, score_bits};
 use oracle::{
     encode::encode,
     generate::{self, calls, damage::damaged_file},
     reader::read_library,
     values::Original,
+};
+use oracle_tests::{
+    AttributesBits, answer, due, due_answer, due_score, map_file, refused, score_bits,
 };
 use popejoanplum::{
     Board, Error, Map, MapFile, Object, ObjectKind, Score, listing, play_scores, read_map,
@@ -74,8 +74,8 @@ fn scores_of_plays_beside_a_map() {
             {
                 let map = list.map().expect("an accepted build");
                 let due = due_answer(map, &Original::new(map), play);
-                let play = common::play(play);
-                let ours = common::map(map);
+                let play = oracle_tests::play(play);
+                let ours = oracle_tests::map(map);
                 assert_eq!(answer(ours.score_play(&play)), due);
                 assert_eq!(answer(score_play(&encode(map), &play)), due);
                 met[due.map_or_else(|(number, _)| number.into(), |_| 0)] += 1;
@@ -131,7 +131,7 @@ fn reading_without_scores() {
             (info.breaks, info.objects),
             (map.breaks.len(), map.objects.len())
         );
-        let settings = common::settings(&map.settings);
+        let settings = oracle_tests::settings(&map.settings);
         assert_eq!(
             [info.settings.hp, info.settings.od, info.settings.cs].map(f32::to_bits),
             [settings.hp, settings.od, settings.cs].map(f32::to_bits)

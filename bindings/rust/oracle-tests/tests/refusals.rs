@@ -1,10 +1,8 @@
 //! The table of refusals, whose numbers and offsets are worked out by hand from document 01, held to
 //! the raw functions: these can be lent too little memory, or a board that no build made.
 
-mod common;
-
-use common::refused;
 use oracle::recipe::{Kind, Lent, Memory, Row, parse_table};
+use oracle_tests::refused;
 use popejoanplum::{
     Error, listing, score_map,
     sys::{self, Attributes, Estimates, Play, PlayAnswer, Settings, Status},
@@ -210,7 +208,7 @@ fn is_zero(answer: &PlayAnswer) -> bool {
 
 #[test]
 fn every_row_of_the_table() {
-    let table = concat!(env!("CARGO_MANIFEST_DIR"), "/../../vectors/refusals.txt");
+    let table = concat!(env!("CARGO_MANIFEST_DIR"), "/../../../vectors/refusals.txt");
     let rows = parse_table(&std::fs::read_to_string(table).unwrap()).unwrap();
     let mut met = [0_u32; 14];
     for row in &rows {

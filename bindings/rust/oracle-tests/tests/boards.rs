@@ -1,10 +1,7 @@
 //! Lists of edits and reads on a board, beside the oracle, which answers from the map alone.
 
-mod common;
-
 use std::thread;
 
-use common::{answer, due, due_answer, object, play, refused};
 use oracle::{
     board,
     calls::Call,
@@ -14,6 +11,7 @@ use oracle::{
     reader::{read_library, read_object},
     values::Original,
 };
+use oracle_tests::{answer, due, due_answer, object, play, refused};
 use popejoanplum::Board;
 
 /// How often each number was met, with 0 for a good call.
@@ -49,8 +47,11 @@ fn is_board_of(board: &Board, map: &MapFile) {
             .collect::<Vec<_>>()
     };
     assert_eq!(bits(board.starts()), bits(&board::starts(&map.objects)));
-    assert_eq!(board.settings(), common::settings(&map.settings));
-    assert_eq!(board.breaks().collect::<Vec<_>>(), common::map(map).breaks);
+    assert_eq!(board.settings(), oracle_tests::settings(&map.settings));
+    assert_eq!(
+        board.breaks().collect::<Vec<_>>(),
+        oracle_tests::map(map).breaks
+    );
 }
 
 /// The oracle's list as far as a board of ours can be called so.
@@ -153,7 +154,7 @@ fn a_board_each_in_several_threads() {
 fn a_board_read_by_several_threads() {
     fn goes<T: Send + Sync>(_: &T) {}
     let map = oracle::generate::mixed::mixed_map(500);
-    let board = Board::from_map(&common::map(&map)).unwrap();
+    let board = Board::from_map(&oracle_tests::map(&map)).unwrap();
     goes(&board);
     let original = Original::new(&map);
     let answers: Vec<_> = thread::scope(|scope| {

@@ -1,7 +1,5 @@
 //! The oracle's types as ours, and its values beside ours.
 
-#![allow(dead_code, reason = "each test file takes what it needs")]
-
 use oracle::{map as theirs, reader::Refusal, values};
 use popejoanplum::{
     Attributes, Break, Error, Estimates, Map, MapFile, Mods, Nested, Object, Origin, Play, Score,

@@ -1,38 +1,36 @@
 -- What follows from the calls' definitions: a build of an accepted map is done, one edit leads between neighbouring maps, an edit touches little, and
 -- a board that a map has gets no 13.
-use Prim.Native.Nat.{ℕ, zero, suc, _+_, _*_, _/_, _^_, _≤_, _<_}
-use mathlib.Core.Path.{_≡_, refl, sym, ap, ap₂, _∙_, subst}
-use mathlib.Core.Logic.{_≢_}
 use mathlib.Core.Bool.{Bool, true, false, cond}
 use mathlib.Core.List.{List, [], _∷_, _++_, append-nil}
+use mathlib.Core.Logic.{_≢_}
+use mathlib.Core.Path.{_≡_, refl, sym, ap, ap₂, _∙_, subst}
+use Prim.Native.Nat.{ℕ, zero, suc, _+_, _*_, _/_, _^_, _≤_, _<_}
 use native.Mathlib.Nat.{not-suc-le-zero, le-of-suc-le-suc}
 use native.Mathlib.Omega.{arith}
-use borrow.Author.Tests.{lt-ltb, le-ltb, eq-eqb, ne-eqb, leb-false}
-use lib.Dec.{eqb, ltb, leb}
+use borrow.Author.Tests.{lt-ltb, le-ltb, ne-eqb, leb-false}
+use lib.Dec.{ltb, leb}
 use lib.Ieee.{Float, nan}
-use lib.ListN.{length, drop, getD, set, length-append, length-set}
+use lib.ListN.{length, drop, getD, set, length-append}
 use lib.Seq.{getD-set-other}
-use Rattle.board_build.specs.Build.{buildOf, built}
-use Rattle.scoring.specs.Scores.{Outcome, Scores, scoresOf}
 use Rattle.numbers.specs.Words.{wordAt}
 use Rattle.rules.specs.Refusals.{Checked, good, refused, _>>=_, _>>_, refuse_when_}
+use Rattle.rules.proofs.Laws.{never}
+use Rattle.play_state.specs.declared.Play.{Play}
 use Rattle.records.specs.Objects.{Object, Kind, circle, slider, spinner}
 use Rattle.records.specs.Records.{Content, header, break, object, play, objectOf}
 use Rattle.map_file.specs.File.{Map, fileOf}
-use Rattle.records.specs.declared.beatmap.Settings.{Settings}
-use Rattle.play_state.specs.declared.Play.{Play}
-use Rattle.rules.proofs.Laws.{never}
 use Rattle.encoding.specs.Encoding.{fieldsOf, circleFields, sliderFields, spinnerFields, nestedBytes, kindBytes, objectBytes, mapFile}
-use Rattle.encoding.specs.Limits.{Each, none, one, ObjectWithin, MapWithin}
+use Rattle.encoding.specs.Limits.{Each, one, ObjectWithin, MapWithin}
 use Rattle.encoding.proofs.FieldBytes.{fields-length}
 use Rattle.encoding.proofs.RoundTrip.{object-back}
 use Rattle.simulator.specs.Attributes.{scoreAttributesAt}
 use Rattle.simulator.specs.declared.attributes.ScoreAttributes.{ScoreAttributes}
-use Rattle.play_score.specs.PlayRules.{modsBad, playScore, givenAnswer, givenScore}
+use Rattle.play_score.specs.PlayRules.{givenAnswer, givenScore}
 use Rattle.play_score.specs.declared.PlayScore.{PlayScore}
 use Rattle.play_score.specs.declared.GivenPlay.the-variants as given
+use Rattle.scoring.specs.Scores.{Outcome, Scores, scoresOf}
+use Rattle.scoring.proofs.Rules.{Ruled, fine, rule, ruled-bind, ruled-when, ruled-object, ruled-score-of, two, three, eight}
 use Rattle.entries.specs.Entry.{entryOf, placeWords}
-use Rattle.entries.specs.Words.{entryAt}
 use Rattle.tree.specs.Size.{levelsOf, capOf}
 use Rattle.tree.specs.Put.{climbed}
 use Rattle.tree.specs.Board.{Covers, boardOf, startsOf}
@@ -44,8 +42,8 @@ use Rattle.board.specs.declared.place.Written.{Written}
 use Rattle.board.specs.declared.place.Written.the-variants as written
 use Rattle.board.proofs.Binds.{bound, passed}
 use Rattle.board.proofs.Rooms as rooms
-use Rattle.demands.specs.Calls.{isAccepted, changed, timesOf, Lent, lentFor, Call, edit, read, CallAnswer, edits, reads, answer, lentAfter, putIfAccepted, mapAfter, recordAnswer, editAnswer, AcceptedMap}
-use Rattle.scoring.proofs.Rules.{IsRule, Ruled, fine, rule, ruled-bind, ruled-when, ruled-object, ruled-score-of, two, three, eight}
+use Rattle.board_build.specs.Build.{buildOf, built}
+use Rattle.demands.specs.Calls.{isAccepted, changed, timesOf, lentFor, edit, read, edits, reads, answer, lentAfter, putIfAccepted, recordAnswer, AcceptedMap}
 use Rattle.demands.proofs.Maps.{within-accepted, within-scored, accepted-is-within}
 use Rattle.demands.proofs.EditRight.{edit-right}
 use Rattle.demands.proofs.ReadRight.{read-right}

@@ -1,41 +1,39 @@
 -- The claim of demand 3: by induction over the list, each call leaves the board and start table of the map as it leaves the map.
-use Prim.Native.Nat.{ℕ, _*_, _≤_, _<_}
-use mathlib.Core.Path.{_≡_, refl, sym, ap, ap₂, _∙_, subst}
-use mathlib.Core.Logic.{_⊎_, inl, inr}
 use mathlib.Core.Bool.{Bool, true, false, not, cond, _&&_}
 use mathlib.Core.List.{List, [], _∷_, _++_}
+use mathlib.Core.Logic.{_⊎_, inl, inr}
+use mathlib.Core.Path.{_≡_, refl, sym, ap, _∙_, subst}
+use Prim.Native.Nat.{ℕ, _*_, _≤_}
 use native.Mathlib.Decide.{ℕ-discrete}
-use native.Mathlib.Omega.{arith}
 use borrow.Author.Tests.{eq-eqb, ne-eqb, ltb-false}
-use lib.Dec.{eqb, ltb}
+use lib.Dec.{ltb}
 use lib.Ieee.{Float}
 use lib.ListN.{length, drop, set}
 use Rattle.rules.specs.Limits.{maxBonus}
-use Rattle.entries.specs.Entry.{placeWords}
 use Rattle.rules.specs.Refusals.{Checked, good, refused, _>>_}
-use Rattle.records.specs.Objects.{Object, bonus}
-use Rattle.map_file.specs.File.{Map, File, Result, accepted, refusedAt, fileOf}
-use Rattle.records.specs.declared.beatmap.Settings.{Settings}
-use Rattle.play_state.specs.declared.Play.{Play}
 use Rattle.rules.proofs.Laws.{never}
-use Rattle.encoding.specs.Encoding.{mapFile, playBytes}
+use Rattle.play_state.specs.declared.Play.{Play}
+use Rattle.records.specs.Objects.{Object, bonus}
+use Rattle.records.specs.declared.beatmap.Settings.{Settings}
+use Rattle.map_file.specs.File.{Map, fileOf}
+use Rattle.encoding.specs.Encoding.{mapFile}
 use Rattle.encoding.specs.Limits.{ObjectWithin, MapWithin, PlaySized}
 use Rattle.simulator.specs.Attributes.{scoreAttributesAt}
 use Rattle.play_score.specs.PlayRules.{givenAnswer, givenScore}
-use Rattle.scoring.specs.Scores.{Outcome, refusal, values, at-offset, then, Scores, scoresOf}
 use Rattle.play_score.specs.declared.PlayScore.{PlayScore}
+use Rattle.scoring.specs.Scores.{Outcome, refusal, values, at-offset, then, Scores, scoresOf}
 use Rattle.scoring.proofs.Answers.{no-number, values-within}
 use Rattle.scoring.proofs.Behind.{behind-map}
+use Rattle.entries.specs.Entry.{placeWords}
 use Rattle.tree.specs.Size.{capOf}
 use Rattle.tree.specs.Board.{boardOf, startsOf}
 use Rattle.board.specs.Place.{roomFor, writtenLeft}
-use Rattle.board_build.specs.Build.{buildOf, built}
 use Rattle.board.specs.Edit.{objectIn, editOf}
-use Rattle.board.specs.Read.{readOf}
 use Rattle.board.specs.declared.place.Written.{Written}
 use Rattle.board.specs.declared.place.Written.the-variants as written
 use Rattle.board.proofs.Edits as edits
-use Rattle.demands.specs.Calls.{isAccepted, AcceptedMap, changed, timesOf, mapIn, Lent, lentFor, Call, edit, read, CallAnswer, edits as answered, reads, answer, lentAfter, putIfAccepted, mapAfter, editAnswer, fromFile, ReadAnswer, IsRefused, Stands, MayStand, Answers, Right, lentBy, Claim}
+use Rattle.board_build.specs.Build.{buildOf, built}
+use Rattle.demands.specs.Calls.{isAccepted, AcceptedMap, changed, timesOf, mapIn, Lent, lentFor, Call, edit, read, edits as answered, reads, answer, lentAfter, putIfAccepted, mapAfter, fromFile, ReadAnswer, IsRefused, Stands, MayStand, Answers, Right, lentBy, Claim}
 use Rattle.demands.proofs.Maps.{accepted-is-within, within-is-accepted, changed-within, by-bonus}
 use Rattle.demands.proofs.EditRight.{edit-right}
 use Rattle.demands.proofs.ReadRight.{read-right}

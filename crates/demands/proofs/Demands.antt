@@ -1,52 +1,47 @@
 -- The demands on the engine: the counterpart of docs/DEMANDS.md, which says which contracts the theorems are about. Each theorem stands
 -- under the sentence that it answers. `fileOf` and `scoresOf` are what the contracts of the public calls say of the bytes that they are given.
-use mathlib.Core.Path.{_≡_, refl, sym, ap, _∙_, subst}
+use mathlib.Core.Bool.{true}
+use mathlib.Core.List.{List, [], _++_}
 use mathlib.Core.Logic.{_≢_}
-use mathlib.Core.Bool.{Bool, true, false}
-use mathlib.Core.List.{List, [], _∷_, _++_, append-nil}
+use mathlib.Core.Path.{_≡_, sym, subst}
 use Prim.Native.Nat.{ℕ, _-_, _*_, _/_, _≤_, _<_}
-use native.Mathlib.Omega.{arith}
 use lib.Ieee.{Float, toUnsigned}
 use lib.ListN.{length, take, drop}
-use Rattle.demands.proofs.Exactness.{combo-points-exact, spinner-score-exact}
-use Rattle.simulator.proofs.Exact.{rustSpinnerScore}
+use Rattle.numbers.specs.Floats.{whole, _⊗_}
+use Rattle.rules.specs.Refusals.{good, BOARD}
+use Rattle.play_state.specs.declared.Play.{Play}
+use Rattle.records.specs.Objects.{Object}
+use Rattle.map_file.specs.File.{Map, File, accepted, fileOf}
+use Rattle.encoding.specs.Limits.{MapWithin, Each, PlayWithin}
+use Rattle.encoding.specs.Encoding.{mapFile, each, playBytes}
+use Rattle.encoding.proofs.Accepted.{accepted-within}
+use Rattle.encoding.proofs.RoundTrip.{bare}
+use Rattle.ruleset.specs.Stars.{multiplierAt}
 use Rattle.simulator.specs.Nested.{noObject, countedAll}
 use Rattle.simulator.specs.Walk.{comboPoints}
-use Rattle.ruleset.specs.Stars.{multiplierAt}
-use Rattle.numbers.specs.Floats.{whole, _⊗_}
-use Rattle.board_build.specs.Build.{built}
-use Rattle.board.specs.Edit.{objectIn, editOf}
+use Rattle.simulator.specs.Attributes.{scoreAttributesAt}
+use Rattle.simulator.proofs.Exact.{rustSpinnerScore}
+use Rattle.play_score.specs.declared.GivenPlay.the-variants as given
+use Rattle.scoring.specs.Scores.{refusal, values, Scores, scoresOf}
+use Rattle.scoring.proofs.Answers.{no-number}
+use Rattle.scoring.proofs.Rules.{IsRule, refusal-rule}
+use Rattle.entries.specs.Entry.{placeWords}
 use Rattle.tree.specs.Board.{boardOf, startsOf}
 use Rattle.tree.specs.Size.{capOf}
-use Rattle.entries.specs.Entry.{placeWords}
-use Rattle.records.specs.Objects.{Object}
-use Rattle.demands.proofs.Maps.{within-scored, accepted-is-within, within-is-accepted, accepted-gets-none}
-use Rattle.rules.specs.Refusals.{Checked, good, refused, _>>_, refuse_when_, BOARD}
-use Rattle.map_file.specs.File.{Map, File, Result, accepted, refusedAt, fileOf}
-use Rattle.play_state.specs.declared.Play.{Play}
-use Rattle.encoding.specs.Limits.{MapWithin, Each, none}
-use Rattle.encoding.specs.Encoding.{mapFile, each}
-use Rattle.encoding.proofs.Accepted.{accepted-within}
-use Rattle.encoding.proofs.RoundTrip.{round-trip, bare}
-use Rattle.simulator.specs.Attributes.{scoreAttributesAt}
-use Rattle.simulator.specs.declared.attributes.ScoreAttributes.{ScoreAttributes}
-use Rattle.estimates.specs.Effective.{estimatesOf}
-use Rattle.play_score.specs.PlayRules.{exceeds, overCombo, playScore}
-use Rattle.scoring.specs.Scores.{Outcome, refusal, values, at-offset, then, Scores, playScoreOn, playScores, scoresOf}
-use Rattle.play_score.specs.declared.PlayScore.{PlayScore}
-use Rattle.scoring.proofs.Answers.{no-number}
+use Rattle.board.specs.Edit.{objectIn, editOf}
 use Rattle.board.specs.declared.place.Written.the-variants as written
-use Rattle.play_score.specs.declared.GivenPlay.the-variants as given
+use Rattle.board_build.specs.Build.{built}
 use Rattle.listing.specs.Listing.{inputText, listedOf}
 use Rattle.listing.specs.declared.Listed.the-variants as listed
-use Rattle.demands.specs.Calls.{isAccepted, AcceptedMap, changed, timesOf, mapIn, lentFor, lentBy, Call, edit, read, edits, reads, answer, mapAfterAll, lentAfterAll, MayStand, Claim}
-use Rattle.scoring.proofs.Rules.{IsRule, refusal-rule}
 use Rattle.listing.proofs.Fits.{listing-told}
+use Rattle.demands.specs.Calls.{isAccepted, AcceptedMap, changed, timesOf, mapIn, lentFor, lentBy, Call, edit, read, edits, reads, answer, mapAfterAll, lentAfterAll, MayStand, Claim}
+use Rattle.demands.proofs.Files.{Keeps, scoredPlays, PlaysKept, plays-are-scored, plays-of-accepted, file-with-plays}
+use Rattle.demands.proofs.Exactness.{combo-points-exact, spinner-score-exact}
+use Rattle.demands.proofs.Maps.{within-scored, accepted-is-within, within-is-accepted, accepted-gets-none}
 use Rattle.demands.proofs.CallsRight.{edit-accepts, calls-right}
 use Rattle.demands.proofs.Boards.{Leads, Touches, build-is-done}
 use Rattle.demands.proofs.Boards as boards
 use Rattle.demands.proofs.Lists.{left-by-a-list}
-use Rattle.rules.proofs.Laws.{never}
 
 -- ---- Demand 1
 -- "Fed anything, the program finishes", with its listing: the text of every input leaves room in the program's space of 262,144 bytes
@@ -65,50 +60,28 @@ accepted-keeps-the-rules s sc e = let k = no-number s sc e in subst MapWithin (s
 pub keeping-the-rules-is-accepted : (m : Map) → MapWithin m → scoresOf (fileOf (mapFile m)) ≡ values (record { map = m; plays = [] })
 keeping-the-rules-is-accepted = within-scored
 
+-- the same with plays: those of a file that gets no number break neither 9 nor 10 on its map, and a map with plays within their limits that do so has
+-- a file that gets none, with their scores
+pub accepted-plays-keep-the-rules : (s : List ℕ) (sc : Scores) → scoresOf (fileOf s) ≡ values sc → PlaysKept s
+accepted-plays-keep-the-rules = plays-of-accepted
+
+pub plays-that-keep-the-rules-are-accepted : (m : Map) (ps : List Play) → MapWithin m → Each PlayWithin ps → Each (Keeps m) ps
+    → scoresOf (fileOf (mapFile m ++ each playBytes ps)) ≡ values (record { map = m; plays = scoredPlays m ps })
+plays-that-keep-the-rules-are-accepted = file-with-plays
+
 -- ---- Demand 2
 -- "For every accepted map, passed count and play all attributes and estimates have the Rust's values": those of `scoreAttributesAt` and
--- `estimatesOf`, written from the public ScoreV1 rules and document 01's formulas
-abbrev pub scored : Map → Play → PlayScore
-scored m p =
-    let a = scoreAttributesAt m (p .«passed_objects») in record { attributes = a; estimates = estimatesOf p (a .difficulty) }
-
-abbrev pub scoredAll : Map → List (ℕ × Play) → List PlayScore
-scoredAll m [] = []
-scoredAll m (p ∷ ps) = scored m (p .1) ∷ scoredAll m ps
-
-scored-is : (m : Map) (p : Play) (s : PlayScore) → playScoreOn m p ≡ good s → s ≡ scored m p
-unfolding playScore _>>_ refuse_when_
-scored-is m p s e = go (exceeds p (scoreAttributesAt m (p .«passed_objects»))) (overCombo p (scoreAttributesAt m (p .«passed_objects») .difficulty)) e
-  where
-    go : (b c : Bool) → ((refuse 9 when b) >> ((refuse 10 when c) >> good (scored m p))) ≡ good s → s ≡ scored m p
-    go true c e = never (cc)
-    go false true e = never (cc)
-    go false false e = cc
-
-scored-all : (m : Map) (ps : List (ℕ × Play)) (ss : List PlayScore) → playScores m ps ≡ values ss → ss ≡ scoredAll m ps
-unfolding playScores
-scored-all m [] ss e = cc
-scored-all m (p ∷ ps) ss e = go (λ ts q. scored-all m ps ts q) (playScoreOn m (p .1)) refl (playScores m ps) refl e
-  where
-    go : ((ts : List PlayScore) → playScores m ps ≡ values ts → ts ≡ scoredAll m ps) → (x : Checked PlayScore) → playScoreOn m (p .1) ≡ x
-        → (y : Outcome (List PlayScore)) → playScores m ps ≡ y → then (at-offset (p .0) x) (λ t. then y (λ ts. values (t ∷ ts))) ≡ values ss → ss ≡ scoredAll m (p ∷ ps)
-    go rest (refused n) a y b e = never (cc)
-    go rest (good t) a (refusal n at) b e = never (cc)
-    go rest (good t) a (values ts) b e =
-        let same : t ∷ ts ≡ ss = cc in
-        sym same ∙ ap (λ (x : PlayScore). x ∷ ts) (scored-is m (p .1) t a) ∙ ap (λ (l : List PlayScore). scored m (p .1) ∷ l) (rest ts b)
-
--- the plays of a file, in its order
+-- `estimatesOf`, written from the public ScoreV1 rules and document 01's formulas (`scored` of proofs/Files), for the plays of a file in its order
 pub record Values (s : List ℕ) (sc : Scores) : Type 0 where
   pub file : File
   pub read : fileOf s ≡ accepted file
   pub map : sc .map ≡ file .map
-  pub plays : sc .plays ≡ scoredAll (file .map) (file .plays)
+  pub plays : sc .plays ≡ scoredPlays (file .map) (bare (file .plays))
 
 pub values-are-the-definition's : (s : List ℕ) (sc : Scores) → scoresOf (fileOf s) ≡ values sc → Values s sc
 values-are-the-definition's s sc e =
     let k = no-number s sc e in
-    record { file = k .file; read = k .read; map = k .map; plays = scored-all (k .file .map) (k .file .plays) (sc .plays) (k .plays) }
+    record { file = k .file; read = k .read; map = k .map; plays = plays-are-scored (k .file .map) (k .file .plays) (sc .plays) (k .plays) }
 
 -- "These products are exact; no cast saturates": for every accepted map and passed count, the Rust's float products and sums are the whole numbers of
 -- the definitions

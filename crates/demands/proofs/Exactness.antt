@@ -1,14 +1,14 @@
 -- "These products are exact; no cast saturates", for every accepted map: the Rust's float products and sums are the whole numbers of the definitions.
-use mathlib.Core.Path.{_≡_, refl, sym, ap, _∙_, subst}
 use mathlib.Core.List.{List, [], _∷_}
-use Prim.Native.Nat.{ℕ, zero, suc, _+_, _-_, _/_, _^_, _≤_, _<_}
+use mathlib.Core.Path.{_≡_, ap, _∙_}
+use Prim.Native.Nat.{ℕ, zero, suc, _-_, _/_, _≤_, _<_}
 use native.Mathlib.Omega.{arith}
 use lib.Dec.{lit<}
-use lib.Ieee.{Float, toUnsigned}
-use lib.ListN.{length, take, length-take}
-use Rattle.rules.specs.Limits.{maxObjects, maxBonus, maxCombo}
+use lib.Ieee.{toUnsigned}
+use lib.ListN.{take, length-take}
 use Rattle.numbers.specs.Floats.{whole, _⊗_}
-use Rattle.records.specs.Objects.{Object, bonus, kindBonus}
+use Rattle.rules.specs.Limits.{maxObjects, maxBonus, maxCombo}
+use Rattle.records.specs.Objects.{Object, bonus}
 use Rattle.map_file.specs.File.{Map}
 use Rattle.encoding.specs.Limits.{MapWithin}
 use Rattle.ruleset.specs.Stars.{multiplierAt}

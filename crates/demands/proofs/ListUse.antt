@@ -1,9 +1,9 @@
 -- The claim in use: a list of calls on the board of run (4), built in more memory than it needs. What the list leaves and what its calls answer is
 -- told by the claim: nothing that a call does to lent memory is computed behind `stands`, so that a weaker claim would not tell it.
-use Prim.Native.Nat.{ℕ}
-use mathlib.Core.Path.{_≡_, refl, ap}
-use mathlib.Core.Logic.{inl, inr}
 use mathlib.Core.List.{List, [], _∷_, _++_, map}
+use mathlib.Core.Logic.{inl, inr}
+use mathlib.Core.Path.{_≡_, refl, ap}
+use Prim.Native.Nat.{ℕ}
 use lib.Dec.{lit<}
 use lib.Ieee.{Float, nan, fits, add, sub, mul, div, neg, lt, le, eq, isNan, ofInt, ofBits, toBits, toUnsigned}
 use lib.ListN.{getD, replicate}
@@ -11,9 +11,9 @@ use Rattle.numbers.specs.Words.{wordAt, bytesOf}
 use Rattle.numbers.specs.Floats.{whole}
 use Rattle.numbers.specs.MinMax.{clampOf}
 use Rattle.numbers.specs.Rounding.{roundTiesEvenI32}
-use Rattle.rules.specs.Refusals.{_>>=_, _>>_, refuse_when_}
 use Rattle.spinner.specs.HalfSpins.{totalHalfSpins, requiredHalfSpins}
 use Rattle.spinner.specs.Bonus.{legacyOf, standardisedOf, halfSpinPoints}
+use Rattle.rules.specs.Refusals.{_>>=_, _>>_, refuse_when_}
 use Rattle.play_state.specs.Play.{flagsBad, hitresultsOf}
 use Rattle.play_state.specs.declared.Play.{Play}
 use Rattle.play_state.specs.declared.OsuScoreOrigin.the-variants.{Stable}
@@ -38,7 +38,7 @@ use Rattle.entries.specs.Words.{entryAt, putEntry, wordsFrom}
 use Rattle.tree.specs.Size.{levelsFrom, levelsOf}
 use Rattle.tree.specs.Limited.{limited}
 use Rattle.tree.specs.Put.{aboveOf, climbed}
-use Rattle.tree.specs.Board.{covered, entryIn, boardEntry, boardOf, startsOf}
+use Rattle.tree.specs.Board.{covered, entryIn, boardEntry, boardOf}
 use Rattle.board.specs.Place.{roomFor, putPlace}
 use Rattle.board.specs.Edit.{objectIn, editOf}
 use Rattle.board.specs.declared.place.Written.the-variants as written

@@ -1,6 +1,6 @@
 -- What a list leaves, by name: the end of the claim for a whole list. Assumes nothing.
-use mathlib.Core.Path.{_≡_}
 use mathlib.Core.List.{List, [], _∷_}
+use mathlib.Core.Path.{_≡_}
 use Prim.Native.Nat.{ℕ, _*_}
 use lib.Ieee.{Float}
 use lib.ListN.{length, drop}

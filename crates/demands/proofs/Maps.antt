@@ -1,24 +1,24 @@
 -- Which changed maps are accepted: an accepted map with another object within its limits can break only the rule on the legacy bonus.
-use Prim.Native.Nat.{ℕ, _+_, _≤_, _<_}
-use mathlib.Core.Path.{_≡_, refl, sym, ap, _∙_, subst}
 use mathlib.Core.Bool.{Bool, true, false, not}
 use mathlib.Core.List.{List, [], _∷_, _++_, append-assoc, append-nil}
-use native.Mathlib.Omega.{arith}
+use mathlib.Core.Path.{_≡_, refl, sym, ap, _∙_, subst}
+use Prim.Native.Nat.{ℕ, _+_, _≤_, _<_}
 use native.Mathlib.Decide.{decLt}
+use native.Mathlib.Omega.{arith}
 use borrow.Author.Tests.{ltb-true, ltb-false}
 use lib.Dec.{ltb}
 use lib.ListN.{length, set, length-set}
 use Rattle.rules.specs.Limits.{maxObjects, maxBonus}
+use Rattle.rules.proofs.Laws.{never}
+use Rattle.play_state.specs.declared.Play.{Play}
 use Rattle.records.specs.Objects.{Object, bonus, kindBonus}
 use Rattle.map_file.specs.File.{Map, accepted, fileOf}
-use Rattle.play_state.specs.declared.Play.{Play}
-use Rattle.rules.proofs.Laws.{never}
-use Rattle.scoring.specs.Scores.{values, then, playScores, scoresOf}
 use Rattle.map_file.proofs.Reading.{length-snoc, bonus-snoc}
-use Rattle.encoding.specs.Encoding.{headerBytes, breakBytes, objectBytes, each, mapFile}
+use Rattle.encoding.specs.Encoding.{objectBytes, each, mapFile}
 use Rattle.encoding.specs.Limits.{Each, none, one, ObjectWithin, MapWithin}
 use Rattle.encoding.proofs.Accepted.{each-snoc, accepted-within}
 use Rattle.encoding.proofs.RoundTrip.{round-trip, over-bonus, bare}
+use Rattle.scoring.specs.Scores.{values, then, playScores, scoresOf}
 use Rattle.tree.proofs.Changed.{each-set}
 use Rattle.demands.specs.Calls.{getsNone, isAccepted, AcceptedMap, changed}
 

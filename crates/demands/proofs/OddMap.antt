@@ -1,8 +1,8 @@
 -- A map as a value that no file holds: hp is the double 0.1, which is no float of 32 bits. Its file gets no number, since it is that of another map, and
 -- the map is not accepted: reading the file back gives another one.
-use mathlib.Core.Path.{_≡_, refl, subst}
-use mathlib.Core.Bool.{Bool, true, false}
+use mathlib.Core.Bool.{true, false}
 use mathlib.Core.List.{[]}
+use mathlib.Core.Path.{_≡_, refl, subst}
 use lib.Dec.{T}
 use lib.Ieee.{binary32, binary64, fits, ofBits, toBits, le, lt, eq, neg}
 use Rattle.numbers.specs.Words.{wordAt, bytesOf}

@@ -1,0 +1,98 @@
+-- Demand 1 for files with plays: the plays of an accepted file exceed nothing and keep their combo, and a map within the limits with plays within
+-- theirs that do so has a file that gets no number. Assumes nothing.
+use mathlib.Core.Bool.{Bool, true, false}
+use mathlib.Core.List.{List, [], _∷_, _++_}
+use mathlib.Core.Path.{_≡_, refl, sym, ap, _∙_, subst}
+use Prim.Native.Nat.{ℕ}
+use Rattle.rules.specs.Refusals.{Checked, good, refused, _>>_, refuse_when_}
+use Rattle.rules.proofs.Laws.{never}
+use Rattle.play_state.specs.declared.Play.{Play}
+use Rattle.map_file.specs.File.{Map, File, accepted, fileOf}
+use Rattle.encoding.specs.Encoding.{mapFile, playBytes, each}
+use Rattle.encoding.specs.Limits.{MapWithin, PlayWithin, Each, none, one}
+use Rattle.encoding.proofs.RoundTrip.{round-trip, bare}
+use Rattle.simulator.specs.Attributes.{scoreAttributesAt}
+use Rattle.estimates.specs.Effective.{estimatesOf}
+use Rattle.play_score.specs.PlayRules.{exceeds, overCombo, playScore}
+use Rattle.play_score.specs.declared.PlayScore.{PlayScore}
+use Rattle.scoring.specs.Scores.{Outcome, refusal, values, at-offset, then, Scores, playScoreOn, playScores, scoresOf}
+use Rattle.scoring.proofs.Answers.{no-number}
+
+-- a play that breaks neither 9 nor 10 on its map
+pub record Keeps (m : Map) (p : Play) : Type 0 where
+  pub fits : exceeds p (scoreAttributesAt m (p .«passed_objects»)) ≡ false
+  pub combo : overCombo p (scoreAttributesAt m (p .«passed_objects») .difficulty) ≡ false
+
+-- its score: "Attributes are those of the passed objects"
+abbrev pub scored : Map → Play → PlayScore
+scored m p =
+    let a = scoreAttributesAt m (p .«passed_objects») in record { attributes = a; estimates = estimatesOf p (a .difficulty) }
+
+abbrev pub scoredPlays : Map → List Play → List PlayScore
+scoredPlays m [] = []
+scoredPlays m (p ∷ ps) = scored m p ∷ scoredPlays m ps
+
+-- ---- one play, both ways
+keeps-good : (m : Map) (p : Play) → Keeps m p → playScoreOn m p ≡ good (scored m p)
+unfolding playScore _>>_ refuse_when_
+keeps-good m p k = simp (k .fits, k .combo)
+
+good-keeps : (m : Map) (p : Play) (s : PlayScore) → playScoreOn m p ≡ good s → Keeps m p
+unfolding playScore _>>_ refuse_when_
+good-keeps m p s e =
+    go (exceeds p (scoreAttributesAt m (p .«passed_objects»))) refl (overCombo p (scoreAttributesAt m (p .«passed_objects») .difficulty)) refl e
+  where
+    go : (x : Bool) → exceeds p (scoreAttributesAt m (p .«passed_objects»)) ≡ x
+        → (y : Bool) → overCombo p (scoreAttributesAt m (p .«passed_objects») .difficulty) ≡ y → ((refuse 9 when x) >> ((refuse 10 when y) >> good (scored m p))) ≡ good s
+        → Keeps m p
+    go true f y g e = never (cc)
+    go false f true g e = never (cc)
+    go false f false g e = record { fits = f; combo = g }
+
+-- ---- the plays of a file
+plays-scored : (m : Map) (l : List (ℕ × Play)) → Each (Keeps m) (bare l) → playScores m l ≡ values (scoredPlays m (bare l))
+unfolding playScores bare
+plays-scored m [] w = refl
+plays-scored m (p ∷ l) (one k w) = simp (keeps-good m (p .1) k, plays-scored m l w)
+
+plays-keep : (m : Map) (l : List (ℕ × Play)) (ss : List PlayScore) → playScores m l ≡ values ss → Each (Keeps m) (bare l)
+unfolding playScores bare
+plays-keep m [] ss e = none
+plays-keep m (p ∷ l) ss e = go (λ ts q. plays-keep m l ts q) (playScoreOn m (p .1)) refl (playScores m l) refl e
+  where
+    go : ((ts : List PlayScore) → playScores m l ≡ values ts → Each (Keeps m) (bare l)) → (x : Checked PlayScore) → playScoreOn m (p .1) ≡ x
+        → (y : Outcome (List PlayScore)) → playScores m l ≡ y → then (at-offset (p .0) x) (λ t. then y (λ ts. values (t ∷ ts))) ≡ values ss
+        → Each (Keeps m) (p .1 ∷ bare l)
+    go rest (refused n) f y g e = never (cc)
+    go rest (good t) f (refusal n at) g e = never (cc)
+    go rest (good t) f (values ts) g e = one (good-keeps m (p .1) t f) (rest ts g)
+
+values-same : {A : Type 0} {a b : A} → values a ≡ values b → a ≡ b
+values-same e = cc
+
+-- the scores of a file's plays are the definition's
+pub plays-are-scored : (m : Map) (l : List (ℕ × Play)) (ss : List PlayScore) → playScores m l ≡ values ss → ss ≡ scoredPlays m (bare l)
+plays-are-scored m l ss e = values-same (sym e ∙ plays-scored m l (plays-keep m l ss e))
+
+-- a file that gets no number: its plays break neither 9 nor 10
+pub record PlaysKept (s : List ℕ) : Type 0 where
+  pub file : File
+  pub read : fileOf s ≡ accepted file
+  pub plays : Each (Keeps (file .map)) (bare (file .plays))
+
+pub plays-of-accepted : (s : List ℕ) (sc : Scores) → scoresOf (fileOf s) ≡ values sc → PlaysKept s
+plays-of-accepted s sc e =
+    let k = no-number s sc e in
+    record { file = k .file; read = k .read; plays = plays-keep (k .file .map) (k .file .plays) (sc .plays) (k .plays) }
+
+-- a map within the limits, and plays within theirs that break neither 9 nor 10 on it: their file gets no number, and its scores are theirs
+pub file-with-plays : (m : Map) (ps : List Play) → MapWithin m → Each PlayWithin ps → Each (Keeps m) ps
+    → scoresOf (fileOf (mapFile m ++ each playBytes ps)) ≡ values (record { map = m; plays = scoredPlays m ps })
+file-with-plays m ps w pw kept =
+    let k = round-trip m ps w pw in
+    let f = k .file in
+    let here : playScores m (f .plays) ≡ values (scoredPlays m ps) =
+    plays-scored m (f .plays) (subst (Each (Keeps m)) (sym (k .plays-back)) kept) ∙ ap (λ (l : List Play). values (scoredPlays m l)) (k .plays-back) in
+    ap scoresOf (k .read)
+    ∙ ap (λ (x : Map). then (playScores x (f .plays)) (λ ss. values (record { map = x; plays = ss }))) (k .map-back)
+    ∙ ap (λ (x : Outcome (List PlayScore)). then x (λ ss. values (record { map = m; plays = ss }))) here

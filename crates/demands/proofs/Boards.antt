@@ -141,7 +141,7 @@ edit-touches-only b ts n place r w e = go (roomFor b ts n) refl e
         }
 
 -- ---- "an honest board never gets 13"
-record-ruled : (r : List ℕ) → Ruled (objectIn r)
+pub record-ruled : (r : List ℕ) → Ruled (objectIn r)
 unfolding objectIn
 record-ruled r =
     ruled-when 3 _ _ three (ruled-when 2 _ _ two (ruled-bind (objectOf r (wordAt r 0 2)) _ (ruled-object r (wordAt r 0 2)) (λ f.

@@ -11,8 +11,9 @@ use Rattle.numbers.specs.Floats.{whole, _⊗_}
 use Rattle.rules.specs.Refusals.{good, BOARD}
 use Rattle.play_state.specs.declared.Play.{Play}
 use Rattle.records.specs.Objects.{Object}
+use Rattle.records.specs.declared.beatmap.Settings.{Settings}
 use Rattle.map_file.specs.File.{Map, File, accepted, fileOf}
-use Rattle.encoding.specs.Limits.{MapWithin, Each, PlayWithin}
+use Rattle.encoding.specs.Limits.{MapWithin, Each, PlayWithin, HitsWithin}
 use Rattle.encoding.specs.Encoding.{mapFile, each, playBytes}
 use Rattle.encoding.proofs.Accepted.{accepted-within}
 use Rattle.encoding.proofs.RoundTrip.{bare}
@@ -20,7 +21,10 @@ use Rattle.ruleset.specs.Stars.{multiplierAt}
 use Rattle.simulator.specs.Nested.{noObject, countedAll}
 use Rattle.simulator.specs.Walk.{comboPoints}
 use Rattle.simulator.specs.Attributes.{scoreAttributesAt}
+use Rattle.simulator.specs.declared.attributes.OsuDifficultyAttributes.{OsuDifficultyAttributes}
 use Rattle.simulator.proofs.Exact.{rustSpinnerScore}
+use Rattle.estimates.specs.Effective.{estimatesOf}
+use Rattle.estimates.proofs.Range.{FromMissesToJudgements}
 use Rattle.play_score.specs.declared.GivenPlay.the-variants as given
 use Rattle.scoring.specs.Scores.{refusal, values, Scores, scoresOf}
 use Rattle.scoring.proofs.Answers.{no-number}
@@ -28,6 +32,7 @@ use Rattle.scoring.proofs.Rules.{IsRule, refusal-rule}
 use Rattle.entries.specs.Entry.{placeWords}
 use Rattle.tree.specs.Board.{boardOf, startsOf}
 use Rattle.tree.specs.Size.{capOf}
+use Rattle.board.specs.Read.{readOf}
 use Rattle.board.specs.Edit.{objectIn, editOf}
 use Rattle.board.specs.declared.place.Written.the-variants as written
 use Rattle.board_build.specs.Build.{built}
@@ -35,6 +40,7 @@ use Rattle.listing.specs.Listing.{inputText, listedOf}
 use Rattle.listing.specs.declared.Listed.the-variants as listed
 use Rattle.listing.proofs.Fits.{listing-told}
 use Rattle.demands.specs.Calls.{isAccepted, AcceptedMap, changed, timesOf, mapIn, lentFor, lentBy, Call, edit, read, edits, reads, answer, mapAfterAll, lentAfterAll, MayStand, Claim}
+use Rattle.demands.proofs.Refusals.{Numbered, edit-numbered, read-numbered, effective-of-a-play}
 use Rattle.demands.proofs.Files.{Keeps, scoredPlays, PlaysKept, plays-are-scored, plays-of-accepted, file-with-plays}
 use Rattle.demands.proofs.Exactness.{combo-points-exact, spinner-score-exact}
 use Rattle.demands.proofs.Maps.{within-scored, accepted-is-within, within-is-accepted, accepted-gets-none}
@@ -52,6 +58,13 @@ every-listing-fits = listing-told
 -- Which rule it is, `recordOf` and `playScore` say check by check.
 pub refused-by-a-rule : (s : List ℕ) (n at : ℕ) → scoresOf (fileOf s) ≡ refusal n at → IsRule n
 refused-by-a-rule = refusal-rule
+
+-- on any lent memory a refused edit or read has a number from 2 to 13; so none has 0, which a host takes for a good call
+pub refused-edit-by-a-rule : (b : List ℕ) (ts : List Float) (n place : ℕ) (r : List ℕ) → Numbered (editOf b ts n place r)
+refused-edit-by-a-rule = edit-numbered
+
+pub refused-read-by-a-rule : (b : List ℕ) (ts : List Float) (n : ℕ) (s : Settings) (br : List Float) (p : Play) → Numbered (readOf b ts n s br p)
+refused-read-by-a-rule = read-numbered
 
 -- "one that breaks none gets none": a file that gets no number keeps the limits of every rule, and every map within them has a file that gets none
 pub accepted-keeps-the-rules : (s : List ℕ) (sc : Scores) → scoresOf (fileOf s) ≡ values sc → MapWithin (sc .map)
@@ -82,6 +95,10 @@ pub values-are-the-definition's : (s : List ℕ) (sc : Scores) → scoresOf (fil
 values-are-the-definition's s sc e =
     let k = no-number s sc e in
     record { file = k .file; read = k .read; map = k .map; plays = plays-are-scored (k .file .map) (k .file .plays) (sc .plays) (k .plays) }
+
+-- the effective miss count lies from the misses to the judgements, whatever the attributes
+pub effective-misses-in-range : (p : Play) (a : OsuDifficultyAttributes) → HitsWithin (p .hitresults) → FromMissesToJudgements (estimatesOf p a .effective) (p .hitresults)
+effective-misses-in-range = effective-of-a-play
 
 -- "These products are exact; no cast saturates": for every accepted map and passed count, the Rust's float products and sums are the whole numbers of
 -- the definitions

@@ -7,6 +7,7 @@ pub mod CallsRight
 pub mod Boards
 pub mod Exactness
 pub mod Files
+pub mod Refusals
 pub mod Lists
 pub mod ListUse
 pub mod Demands

@@ -3,3 +3,4 @@ pub mod RecordsBack
 pub mod RoundTrip
 pub mod Written
 pub mod Accepted
+pub mod FileBytes

@@ -8,13 +8,14 @@ use Prim.Native.Nat.{ℕ, _-_, _*_, _/_, _≤_, _<_}
 use lib.Ieee.{Float, toUnsigned}
 use lib.ListN.{length, take, drop}
 use Rattle.numbers.specs.Floats.{whole, _⊗_}
+use Rattle.numbers.proofs.words.Laws.{Bytes}
 use Rattle.rules.specs.Refusals.{good, BOARD}
 use Rattle.play_state.specs.declared.Play.{Play}
 use Rattle.records.specs.Objects.{Object}
 use Rattle.records.specs.declared.beatmap.Settings.{Settings}
 use Rattle.map_file.specs.File.{Map, File, accepted, fileOf}
-use Rattle.encoding.specs.Limits.{MapWithin, Each, PlayWithin, HitsWithin}
-use Rattle.encoding.specs.Encoding.{mapFile, each, playBytes}
+use Rattle.encoding.specs.Limits.{MapWithin, HitsWithin}
+use Rattle.encoding.specs.Encoding.{mapFile}
 use Rattle.encoding.proofs.Accepted.{accepted-within}
 use Rattle.encoding.proofs.RoundTrip.{bare}
 use Rattle.ruleset.specs.Stars.{multiplierAt}
@@ -41,7 +42,7 @@ use Rattle.listing.specs.declared.Listed.the-variants as listed
 use Rattle.listing.proofs.Fits.{listing-told}
 use Rattle.demands.specs.Calls.{isAccepted, AcceptedMap, changed, timesOf, mapIn, lentFor, lentBy, Call, edit, read, edits, reads, answer, mapAfterAll, lentAfterAll, MayStand, Claim}
 use Rattle.demands.proofs.Refusals.{Numbered, edit-numbered, read-numbered, effective-of-a-play}
-use Rattle.demands.proofs.Files.{Keeps, scoredPlays, PlaysKept, plays-are-scored, plays-of-accepted, file-with-plays}
+use Rattle.demands.proofs.Files.{scoredPlays, plays-are-scored, RulesKept, only-when-kept, when-kept}
 use Rattle.demands.proofs.Exactness.{combo-points-exact, spinner-score-exact}
 use Rattle.demands.proofs.Maps.{within-scored, accepted-is-within, within-is-accepted, accepted-gets-none}
 use Rattle.demands.proofs.CallsRight.{edit-accepts, calls-right}
@@ -73,14 +74,14 @@ accepted-keeps-the-rules s sc e = let k = no-number s sc e in subst MapWithin (s
 pub keeping-the-rules-is-accepted : (m : Map) → MapWithin m → scoresOf (fileOf (mapFile m)) ≡ values (record { map = m; plays = [] })
 keeping-the-rules-is-accepted = within-scored
 
--- the same with plays: those of a file that gets no number break neither 9 nor 10 on its map, and a map with plays within their limits that do so has
--- a file that gets none, with their scores
-pub accepted-plays-keep-the-rules : (s : List ℕ) (sc : Scores) → scoresOf (fileOf s) ≡ values sc → PlaysKept s
-accepted-plays-keep-the-rules = plays-of-accepted
+-- the two together, of whole files: a file gets no number only when, and when, it is the file of a map within the limits with plays within theirs behind
+-- it, none of which exceeds the map or is over the combo; its scores are then those of its plays
+pub no-number-only-when-the-rules-are-kept : (s : List ℕ) → Bytes s → (sc : Scores) → scoresOf (fileOf s) ≡ values sc → RulesKept s
+no-number-only-when-the-rules-are-kept = only-when-kept
 
-pub plays-that-keep-the-rules-are-accepted : (m : Map) (ps : List Play) → MapWithin m → Each PlayWithin ps → Each (Keeps m) ps
-    → scoresOf (fileOf (mapFile m ++ each playBytes ps)) ≡ values (record { map = m; plays = scoredPlays m ps })
-plays-that-keep-the-rules-are-accepted = file-with-plays
+pub no-number-when-the-rules-are-kept : (s : List ℕ) (k : RulesKept s)
+    → scoresOf (fileOf s) ≡ values (record { map = k .map; plays = scoredPlays (k .map) (k .plays) })
+no-number-when-the-rules-are-kept = when-kept
 
 -- ---- Demand 2
 -- "For every accepted map, passed count and play all attributes and estimates have the Rust's values": those of `scoreAttributesAt` and

@@ -4,12 +4,15 @@ use mathlib.Core.Bool.{Bool, true, false}
 use mathlib.Core.List.{List, [], _∷_, _++_}
 use mathlib.Core.Path.{_≡_, refl, sym, ap, _∙_, subst}
 use Prim.Native.Nat.{ℕ}
+use Rattle.numbers.proofs.words.Laws.{Bytes}
 use Rattle.rules.specs.Refusals.{Checked, good, refused, _>>_, refuse_when_}
 use Rattle.rules.proofs.Laws.{never}
 use Rattle.play_state.specs.declared.Play.{Play}
-use Rattle.map_file.specs.File.{Map, File, accepted, fileOf}
+use Rattle.map_file.specs.File.{Map, fileOf}
 use Rattle.encoding.specs.Encoding.{mapFile, playBytes, each}
 use Rattle.encoding.specs.Limits.{MapWithin, PlayWithin, Each, none, one}
+use Rattle.encoding.proofs.Accepted.{accepted-within}
+use Rattle.encoding.proofs.FileBytes.{accepted-bytes}
 use Rattle.encoding.proofs.RoundTrip.{round-trip, bare}
 use Rattle.simulator.specs.Attributes.{scoreAttributesAt}
 use Rattle.estimates.specs.Effective.{estimatesOf}
@@ -74,17 +77,6 @@ values-same e = cc
 pub plays-are-scored : (m : Map) (l : List (ℕ × Play)) (ss : List PlayScore) → playScores m l ≡ values ss → ss ≡ scoredPlays m (bare l)
 plays-are-scored m l ss e = values-same (sym e ∙ plays-scored m l (plays-keep m l ss e))
 
--- a file that gets no number: its plays break neither 9 nor 10
-pub record PlaysKept (s : List ℕ) : Type 0 where
-  pub file : File
-  pub read : fileOf s ≡ accepted file
-  pub plays : Each (Keeps (file .map)) (bare (file .plays))
-
-pub plays-of-accepted : (s : List ℕ) (sc : Scores) → scoresOf (fileOf s) ≡ values sc → PlaysKept s
-plays-of-accepted s sc e =
-    let k = no-number s sc e in
-    record { file = k .file; read = k .read; plays = plays-keep (k .file .map) (k .file .plays) (sc .plays) (k .plays) }
-
 -- a map within the limits, and plays within theirs that break neither 9 nor 10 on it: their file gets no number, and its scores are theirs
 pub file-with-plays : (m : Map) (ps : List Play) → MapWithin m → Each PlayWithin ps → Each (Keeps m) ps
     → scoresOf (fileOf (mapFile m ++ each playBytes ps)) ≡ values (record { map = m; plays = scoredPlays m ps })
@@ -96,3 +88,31 @@ file-with-plays m ps w pw kept =
     ap scoresOf (k .read)
     ∙ ap (λ (x : Map). then (playScores x (f .plays)) (λ ss. values (record { map = x; plays = ss }))) (k .map-back)
     ∙ ap (λ (x : Outcome (List PlayScore)). then x (λ ss. values (record { map = m; plays = ss }))) here
+
+-- ---- "given when, and only when", of whole files
+-- the file of a map within the limits with plays within theirs behind it, none of which breaks 9 or 10
+pub record RulesKept (s : List ℕ) : Type 0 where
+  pub map : Map
+  pub plays : List Play
+  pub bytes : s ≡ mapFile map ++ each playBytes plays
+  pub within : MapWithin map
+  pub fields : Each PlayWithin plays
+  pub kept : Each (Keeps map) plays
+
+-- a file, of bytes, that gets no number is such a file
+pub only-when-kept : (s : List ℕ) → Bytes s → (sc : Scores) → scoresOf (fileOf s) ≡ values sc → RulesKept s
+only-when-kept s b sc e =
+    let k = no-number s sc e in
+    let bytes = accepted-bytes s b (k .file) (k .read) in
+    record {
+      map = k .file .map;
+      plays = bare (k .file .plays);
+      bytes = bytes .0;
+      within = accepted-within s (k .file) (k .read);
+      fields = bytes .1;
+      kept = plays-keep (k .file .map) (k .file .plays) (sc .plays) (k .plays);
+    }
+
+-- every such file gets none, and its scores are those of its plays
+pub when-kept : (s : List ℕ) (k : RulesKept s) → scoresOf (fileOf s) ≡ values (record { map = k .map; plays = scoredPlays (k .map) (k .plays) })
+when-kept s k = ap (λ (l : List ℕ). scoresOf (fileOf l)) (k .bytes) ∙ file-with-plays (k .map) (k .plays) (k .within) (k .fields) (k .kept)

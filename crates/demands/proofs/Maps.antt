@@ -16,6 +16,7 @@ use Rattle.map_file.specs.File.{Map, accepted, fileOf}
 use Rattle.map_file.proofs.Reading.{length-snoc, bonus-snoc}
 use Rattle.encoding.specs.Encoding.{objectBytes, each, mapFile}
 use Rattle.encoding.specs.Limits.{Each, none, one, ObjectWithin, MapWithin}
+use Rattle.encoding.proofs.FileBytes.{written-snoc}
 use Rattle.encoding.proofs.Accepted.{each-snoc, accepted-within}
 use Rattle.encoding.proofs.RoundTrip.{round-trip, over-bonus, bare}
 use Rattle.scoring.specs.Scores.{values, then, playScores, scoresOf}
@@ -63,16 +64,11 @@ within-scored m w =
 abbrev withObjects : Map → List Object → Map
 withObjects m os = record { settings = m .settings; breaks = m .breaks; objects = os }
 
-each-more : (os : List Object) (o : Object) → each objectBytes (os ++ (o ∷ [])) ≡ each objectBytes os ++ objectBytes o
-unfolding each
-each-more [] o = append-nil (objectBytes o)
-each-more (x ∷ os) o = ap (λ (l : List ℕ). objectBytes x ++ l) (each-more os o) ∙ sym (append-assoc (objectBytes x) (each objectBytes os) (objectBytes o))
-
 -- the object behind a map's file makes the file of the map with it
 file-more : (m : Map) (os : List Object) (o : Object) (rest : List ℕ)
     → mapFile (withObjects m (os ++ (o ∷ []))) ++ rest ≡ mapFile (withObjects m os) ++ (objectBytes o ++ rest)
 unfolding mapFile
-file-more m os o rest = simp (each-more os o, append-assoc)
+file-more m os o rest = simp (written-snoc objectBytes os o, append-assoc)
 
 no-objects : (m : Map) (os : List Object) → mapFile (withObjects m []) ++ each objectBytes os ≡ mapFile (withObjects m os)
 unfolding mapFile each

@@ -1,26 +1,26 @@
 -- Bytes that are read as an object are that object's record: a number that was read is written as its bytes, and a float in its range is no NaN,
 -- so that its bits come back too.
-use mathlib.Core.Path.{_≡_, refl, sym, ap, ap₂, _∙_, subst}
 use mathlib.Core.Bool.{Bool, true, false, not}
 use mathlib.Core.List.{List, [], _∷_, _++_}
+use mathlib.Core.Path.{_≡_, refl, sym, ap, ap₂, _∙_, subst}
 use Prim.Native.Nat.{ℕ, _+_, _≤_, _<_, _^_}
 use native.Mathlib.Omega.{arith}
 use borrow.Author.Tests.{ltb-false, eqb-true}
 use lib.Dec.{T, eqb}
+use lib.Ieee.Bits.{toBits-ofBits}
+use lib.Ieee.{Float, nan, inf, fin, binary32, binary64, ofBits, toBits, lt, eq, le, isNan}
 use lib.ListN.{length, take, drop, length-drop}
 use lib.Seq.{take-add, drop-drop, length-take-le}
-use lib.Ieee.{Float, nan, inf, fin, binary32, binary64, ofBits, toBits, lt, eq, le, isNan}
-use lib.Ieee.Bits.{toBits-ofBits}
-use Rattle.map_file.specs.declared.file.Counts.{Counts}
-use Rattle.map_file.specs.Order.{MH, BR, PL, bodyOf, recordOf}
-use Rattle.play_state.specs.Play.{originOf, scoreOf, originChecked, scoreChecked, hitresultsOf}
 use Rattle.numbers.specs.Words.{wordAt, bytesOf}
 use Rattle.numbers.proofs.words.Laws.{Bytes, wordAt-lt, bytesOf-wordAt}
 use Rattle.rules.specs.Refusals.{good}
+use Rattle.rules.proofs.All.{All, none, that, all-bind, all-when, all-pick, all-out}
+use Rattle.play_state.specs.Play.{originOf, scoreOf, originChecked, scoreChecked, hitresultsOf}
 use Rattle.records.specs.Fields.{timed, set, settingOf, settingLimit, rateOf, rateLimit, played}
 use Rattle.records.specs.Objects.{Object}
 use Rattle.records.specs.Records.{Content, header, break, object, play, CI, SL, SP, circleOf, itemOf, nestedOf, sliderOf, spinnerOf, objectOf, headerOf, breakOf, playOf}
-use Rattle.rules.proofs.All.{All, none, that, all-bind, all-when, all-pick, all-out}
+use Rattle.map_file.specs.Order.{MH, BR, PL, bodyOf, recordOf}
+use Rattle.map_file.specs.declared.file.Counts.{Counts}
 use Rattle.encoding.specs.Encoding.{fieldsOf, circleFields, sliderFields, spinnerFields, itemByte, nestedBytes, objectBytes, headerFields, breakFields, playFields, originByte, presentByte, scoreNumber, headerBytes, breakBytes, playBytes}
 use Rattle.encoding.proofs.FieldBytes.{widths, doubleWithin}
 use Rattle.encoding.proofs.RecordsBack.{nested-length}

@@ -11,3 +11,4 @@ pub mod Refusals
 pub mod Lists
 pub mod ListUse
 pub mod Demands
+mod Uses

@@ -1,0 +1,156 @@
+-- The theorems of Demands in use: what follows from them in a step or two, by their statements alone, so that a weaker one would not give it. The claim
+-- over lists is used in ListUse. Assumes nothing.
+use mathlib.Core.Bool.{true}
+use mathlib.Core.List.{List, []}
+use mathlib.Core.Logic.{_≢_}
+use mathlib.Core.Path.{_≡_, sym, ap, _∙_, subst}
+use Prim.Native.Nat.{ℕ, _*_, _-_, _/_, _≤_, _<_}
+use native.Mathlib.Omega.{arith}
+use lib.Ieee.{Float, nan, le, toUnsigned}
+use lib.ListN.{length, take, getD}
+use Rattle.numbers.specs.Floats.{whole, _⊗_}
+use Rattle.numbers.proofs.words.Laws.{Bytes}
+use Rattle.rules.specs.Refusals.{Checked, good, refused, BOARD}
+use Rattle.play_state.specs.declared.Play.{Play}
+use Rattle.records.specs.Objects.{Object}
+use Rattle.records.specs.declared.beatmap.Settings.{Settings}
+use Rattle.map_file.specs.File.{Map, fileOf}
+use Rattle.encoding.specs.Encoding.{mapFile}
+use Rattle.encoding.specs.Limits.{MapWithin, HitsWithin}
+use Rattle.encoding.proofs.RoundTrip.{bare}
+use Rattle.ruleset.specs.Stars.{multiplierAt}
+use Rattle.simulator.specs.Nested.{noObject, countedAll}
+use Rattle.simulator.specs.Walk.{comboPoints}
+use Rattle.simulator.specs.Attributes.{scoreAttributesAt}
+use Rattle.simulator.specs.declared.attributes.OsuDifficultyAttributes.{OsuDifficultyAttributes}
+use Rattle.simulator.proofs.Exact.{rustSpinnerScore}
+use Rattle.miss_calc.specs.Counts.{totalHits}
+use Rattle.estimates.specs.Effective.{estimatesOf}
+use Rattle.play_score.specs.declared.GivenPlay.the-variants as given
+use Rattle.scoring.specs.Scores.{refusal, values, Scores, scoresOf}
+use Rattle.entries.specs.Entry.{placeWords}
+use Rattle.tree.specs.Size.{capOf}
+use Rattle.board.specs.Read.{readOf}
+use Rattle.board.specs.Edit.{objectIn, editOf}
+use Rattle.board.specs.declared.place.Written.the-variants as written
+use Rattle.board_build.specs.Build.{built}
+use Rattle.listing.specs.Listing.{inputText, listedOf}
+use Rattle.listing.specs.declared.Listed.{Listed}
+use Rattle.listing.specs.declared.Listed.the-variants as listed
+use Rattle.demands.specs.Calls.{isAccepted, AcceptedMap, changed, timesOf, mapIn, lentBy, Call, edit, read, edits, reads, answer, mapAfterAll, lentAfterAll, MayStand}
+use Rattle.demands.proofs.Refusals.{Numbered, value, number}
+use Rattle.demands.proofs.Files.{scoredPlays}
+use Rattle.demands.proofs.Boards.{Leads}
+use Rattle.demands.proofs.Demands.{every-listing-fits, refused-by-a-rule, refused-edit-by-a-rule, refused-read-by-a-rule, accepted-keeps-the-rules, keeping-the-rules-is-accepted, no-number-only-when-the-rules-are-kept, no-number-when-the-rules-are-kept, every-combo-product-is-exact, values-are-the-definition's, effective-misses-in-range, every-spinner-sum-is-exact, accepted-maps-are-within, accepted-map-gets-no-number, every-accepted-map-is-built, maps-within-are-accepted, left-by-every-list, changed-map-accepted, one-edit-leads, edit-touches-only, never-13-edit, never-13-read}
+
+-- ---- Demand 1
+-- no listing is cut
+abbrev hasRoom : Listed → ℕ
+hasRoom (listed.Text n) = 1
+hasRoom listed.NoRoom = 0
+
+never-cut : (s : List ℕ) → listedOf (inputText s) 262144 ≢ listed.NoRoom
+never-cut s e = omega (arith, ap hasRoom (sym (every-listing-fits s) ∙ e))
+
+-- 0 is a host's number of a good call, and 11 a board's
+no-file-gets-0 : (s : List ℕ) (at : ℕ) → scoresOf (fileOf s) ≢ refusal 0 at
+no-file-gets-0 s at e = omega (arith, refused-by-a-rule s 0 at e .0)
+
+no-file-gets-11 : (s : List ℕ) (at : ℕ) → scoresOf (fileOf s) ≢ refusal 11 at
+no-file-gets-11 s at e = omega (arith, refused-by-a-rule s 11 at e .1)
+
+abbrev numberOf : {A : Type 0} → Checked A → ℕ
+numberOf (good a) = 1
+numberOf (refused n) = n
+
+not-0 : {A : Type 0} (x : Checked A) → Numbered x → x ≢ refused 0
+not-0 (good a) value e = omega (arith, ap numberOf e)
+not-0 (refused n) (number l h) e = omega (arith, l, ap numberOf e)
+
+no-edit-gets-0 : (b : List ℕ) (ts : List Float) (n place : ℕ) (r : List ℕ) → editOf b ts n place r ≢ refused 0
+no-edit-gets-0 b ts n place r = not-0 (editOf b ts n place r) (refused-edit-by-a-rule b ts n place r)
+
+no-read-gets-0 : (b : List ℕ) (ts : List Float) (n : ℕ) (s : Settings) (br : List Float) (p : Play) → readOf b ts n s br p ≢ refused 0
+no-read-gets-0 b ts n s br p = not-0 (readOf b ts n s br p) (refused-read-by-a-rule b ts n s br p)
+
+-- the map of an accepted file, without the file's plays, has a file that is accepted
+map-alone : (s : List ℕ) (sc : Scores) → scoresOf (fileOf s) ≡ values sc → scoresOf (fileOf (mapFile (sc .map))) ≡ values (record { map = sc .map; plays = [] })
+map-alone s sc e = keeping-the-rules-is-accepted (sc .map) (accepted-keeps-the-rules s sc e)
+
+-- the scores of an accepted file are those of the map and the plays that its bytes are written from
+scores-of-its-bytes : (s : List ℕ) (b : Bytes s) (sc : Scores) (e : scoresOf (fileOf s) ≡ values sc)
+    → values sc ≡ values (record { map = no-number-only-when-the-rules-are-kept s b sc e .map; plays = scoredPlays (no-number-only-when-the-rules-are-kept s b sc e .map) (no-number-only-when-the-rules-are-kept s b sc e .plays) })
+scores-of-its-bytes s b sc e = sym e ∙ no-number-when-the-rules-are-kept s (no-number-only-when-the-rules-are-kept s b sc e)
+
+-- ---- Demand 2
+-- a file without plays has no score of a play
+no-play-no-score : (s : List ℕ) (sc : Scores) (e : scoresOf (fileOf s) ≡ values sc) → values-are-the-definition's s sc e .file .plays ≡ [] → sc .plays ≡ []
+unfolding bare
+no-play-no-score s sc e none =
+    let v = values-are-the-definition's s sc e in
+    v .plays ∙ ap (λ (l : List (ℕ × Play)). scoredPlays (v .file .map) (bare l)) none
+
+-- a play without a judgement, which has no miss either, is estimated none
+nothing-judged : (p : Play) (a : OsuDifficultyAttributes) → HitsWithin (p .hitresults) → totalHits (p .hitresults) ≡ 0
+    → (le (whole 0) (estimatesOf p a .effective) ≡ true) × (le (estimatesOf p a .effective) (whole 0) ≡ true)
+nothing-judged p a w e =
+    let range = effective-misses-in-range p a w in
+    let none : p .hitresults .misses ≡ 0 = omega (arith, e) in (
+      subst (λ (n : ℕ). le (whole n) (estimatesOf p a .effective) ≡ true) none (range .above),
+      subst (λ (n : ℕ). le (estimatesOf p a .effective) (whole n) ≡ true) e (range .below),
+    )
+
+-- two accepted maps whose spinners count the same have the same sum in the Rust
+same-spinner-sum : (m m′ : Map) (p : ℕ) → AcceptedMap m → AcceptedMap m′
+    → countedAll noObject (take p (m .objects)) .«spinner_score» ≡ countedAll noObject (take p (m′ .objects)) .«spinner_score»
+    → rustSpinnerScore (whole 0) (take p (m .objects)) ≡ rustSpinnerScore (whole 0) (take p (m′ .objects))
+same-spinner-sum m m′ p a a′ e = every-spinner-sum-is-exact m p a ∙ ap whole e ∙ sym (every-spinner-sum-is-exact m′ p a′)
+
+-- the product of the last hit of the longest combo
+last-product : (m : Map) (p : ℕ) → AcceptedMap m
+    → toUnsigned 31 (whole (scoreAttributesAt m p .legacy .«max_combo» - 1) ⊗ whole (300 / 25) ⊗ whole (multiplierAt m p))
+    ≡ comboPoints (multiplierAt m p) (scoreAttributesAt m p .legacy .«max_combo») 300
+last-product m p a = every-combo-product-is-exact m p a (scoreAttributesAt m p .legacy .«max_combo») (omega arith)
+
+-- ---- Demand 3
+-- the file of an accepted map is scored as that map
+accepted-is-scored : (m : Map) → AcceptedMap m → scoresOf (fileOf (mapFile m)) ≡ values (record { map = m; plays = [] })
+accepted-is-scored m a = keeping-the-rules-is-accepted m (accepted-maps-are-within m a)
+
+-- what an edit goes by is true of every map within the limits
+within-gets-none : (m : Map) → MapWithin m → isAccepted m ≡ true
+within-gets-none m w = accepted-map-gets-no-number m (maps-within-are-accepted m w)
+
+-- every map within the limits has its board
+within-is-built : (m : Map) → MapWithin m → (b : List ℕ) (ts : List Float) → placeWords * capOf (length (m .objects)) ≤ length b → length (m .objects) ≤ length ts
+    → built (scoresOf (fileOf (mapFile m))) b ts .0 ≡ written.Done
+within-is-built m w b ts room starts = ap (λ z. z .0) (every-accepted-map-is-built m (maps-within-are-accepted m w) b ts room starts)
+
+-- an edit that the claim lets succeed leads to the board of the changed map
+accepted-edit-leads : (m : Map) (place : ℕ) (r : List ℕ) (o : Object) (words : List ℕ) (numbers : List Float) → AcceptedMap m → place < length (m .objects)
+    → objectIn r ≡ good o → isAccepted (changed m place o) ≡ true → Leads m place o words numbers
+accepted-edit-leads m place r o words numbers a h e t = one-edit-leads m place o words numbers a h (changed-map-accepted m a place r o e t)
+
+-- behind every list, no call with the arguments of the map that it left gets 13
+no-13-edit : (s : List ℕ) (b : List ℕ) (ts : List Float) (cs : List Call) (place : ℕ) (r : List ℕ)
+    → built (scoresOf (fileOf s)) b ts .0 ≡ written.Done
+    → MayStand cs (mapIn (fileOf s)) (lentBy s b ts)
+    → answer (edit (length (mapAfterAll cs (mapIn (fileOf s)) .objects)) place r) (lentAfterAll cs (lentBy s b ts)) ≢ edits (written.Refused BOARD 0)
+no-13-edit s b ts cs place r d h e =
+    let left = left-by-every-list s b ts cs d h in
+    let m = mapAfterAll cs (mapIn (fileOf s)) in
+    never-13-edit m _ _ place r (left .0) (sym (ap (λ l. answer (edit (length (m .objects)) place r) l) (left .1)) ∙ e)
+
+no-13-read : (s : List ℕ) (b : List ℕ) (ts : List Float) (cs : List Call) (p : Play)
+    → built (scoresOf (fileOf s)) b ts .0 ≡ written.Done
+    → MayStand cs (mapIn (fileOf s)) (lentBy s b ts)
+    → answer (read (length (mapAfterAll cs (mapIn (fileOf s)) .objects)) (mapAfterAll cs (mapIn (fileOf s)) .settings) (timesOf (mapAfterAll cs (mapIn (fileOf s)) .breaks)) p) (lentAfterAll cs (lentBy s b ts))
+    ≢ reads (given.Refused BOARD 0)
+no-13-read s b ts cs p d h e =
+    let left = left-by-every-list s b ts cs d h in
+    let m = mapAfterAll cs (mapIn (fileOf s)) in
+    never-13-read m _ _ p (left .0) (sym (ap (λ l. answer (read (length (m .objects)) (m .settings) (timesOf (m .breaks)) p) l) (left .1)) ∙ e)
+
+-- an edit of the first object leaves the second one's start time
+second-start : (b : List ℕ) (ts : List Float) (n : ℕ) (r : List ℕ) (w : List ℕ × List Float) → editOf b ts n 0 r ≡ good w → getD (w .1) 1 nan ≡ getD ts 1 nan
+second-start b ts n r w e = edit-touches-only b ts n 0 r w e .starts 1 (λ h. omega (arith, h))

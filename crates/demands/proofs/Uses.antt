@@ -4,10 +4,12 @@ use mathlib.Core.Bool.{true}
 use mathlib.Core.List.{List, []}
 use mathlib.Core.Logic.{_≢_}
 use mathlib.Core.Path.{_≡_, sym, ap, _∙_, subst}
-use Prim.Native.Nat.{ℕ, _*_, _-_, _/_, _≤_, _<_}
+use Prim.Native.Nat.{ℕ, _*_, _-_, _/_, _^_, _≤_, _<_}
+use native.Mathlib.Nat.{le-div-iff-mul-le}
 use native.Mathlib.Omega.{arith}
 use lib.Ieee.{Float, nan, le, toUnsigned}
-use lib.ListN.{length, take, getD}
+use lib.ListN.{length, take, drop, getD}
+use lib.Pow.{pow-mono, pow-pos}
 use Rattle.numbers.specs.Floats.{whole, _⊗_}
 use Rattle.numbers.proofs.words.Laws.{Bytes}
 use Rattle.rules.specs.Refusals.{Checked, good, refused, BOARD}
@@ -15,7 +17,7 @@ use Rattle.play_state.specs.declared.Play.{Play}
 use Rattle.records.specs.Objects.{Object}
 use Rattle.records.specs.declared.beatmap.Settings.{Settings}
 use Rattle.map_file.specs.File.{Map, fileOf}
-use Rattle.encoding.specs.Encoding.{mapFile}
+use Rattle.encoding.specs.Encoding.{objectBytes, mapFile}
 use Rattle.encoding.specs.Limits.{MapWithin, HitsWithin}
 use Rattle.encoding.proofs.RoundTrip.{bare}
 use Rattle.ruleset.specs.Stars.{multiplierAt}
@@ -29,15 +31,18 @@ use Rattle.estimates.specs.Effective.{estimatesOf}
 use Rattle.play_score.specs.declared.GivenPlay.the-variants as given
 use Rattle.scoring.specs.Scores.{refusal, values, Scores, scoresOf}
 use Rattle.entries.specs.Entry.{placeWords}
+use Rattle.entries.specs.Words.{entryAt}
+use Rattle.tree.specs.Board.{Covers, own, left, right}
 use Rattle.tree.specs.Size.{capOf}
 use Rattle.board.specs.Read.{readOf}
 use Rattle.board.specs.Edit.{objectIn, editOf}
+use Rattle.board.specs.declared.place.Written.{Written}
 use Rattle.board.specs.declared.place.Written.the-variants as written
 use Rattle.board_build.specs.Build.{built}
 use Rattle.listing.specs.Listing.{inputText, listedOf}
 use Rattle.listing.specs.declared.Listed.{Listed}
 use Rattle.listing.specs.declared.Listed.the-variants as listed
-use Rattle.demands.specs.Calls.{isAccepted, AcceptedMap, changed, timesOf, mapIn, lentBy, Call, edit, read, edits, reads, answer, mapAfterAll, lentAfterAll, MayStand}
+use Rattle.demands.specs.Calls.{isAccepted, AcceptedMap, changed, timesOf, mapIn, lentFor, lentBy, Call, edit, read, edits, reads, answer, lentAfter, mapAfterAll, lentAfterAll, MayStand}
 use Rattle.demands.proofs.Refusals.{Numbered, value, number}
 use Rattle.demands.proofs.Files.{scoredPlays}
 use Rattle.demands.proofs.Boards.{Leads}
@@ -126,6 +131,21 @@ within-is-built : (m : Map) → MapWithin m → (b : List ℕ) (ts : List Float)
     → built (scoresOf (fileOf (mapFile m))) b ts .0 ≡ written.Done
 within-is-built m w b ts room starts = ap (λ z. z .0) (every-accepted-map-is-built m (maps-within-are-accepted m w) b ts room starts)
 
+-- an edit of a board that was just built leads to the board of the changed map, with what lay beyond the built one
+edit-of-built : (m : Map) (place : ℕ) (o : Object) (b : List ℕ) (ts : List Float) → AcceptedMap m → placeWords * capOf (length (m .objects)) ≤ length b
+    → length (m .objects) ≤ length ts → place < length (m .objects) → AcceptedMap (changed m place o)
+    → (answer (edit (length (m .objects)) place (objectBytes o)) (lentBy (mapFile m) b ts) ≡ edits written.Done)
+    × (lentAfter (edit (length (m .objects)) place (objectBytes o)) (lentBy (mapFile m) b ts)
+    ≡ lentFor (changed m place o) (drop (placeWords * capOf (length (m .objects))) b) (drop (length (m .objects)) ts))
+edit-of-built m place o b ts a room starts h a′ =
+    let call = edit (length (m .objects)) place (objectBytes o) in
+    let words = drop (placeWords * capOf (length (m .objects))) b in
+    let numbers = drop (length (m .objects)) ts in
+    let first : lentBy (mapFile m) b ts ≡ lentFor m words numbers =
+    ap (λ (z : Written × List ℕ × List Float). record { board = z .1; starts = z .2 }) (every-accepted-map-is-built m a b ts room starts) in
+    let leads = one-edit-leads m place o words numbers a h a′ in
+    (ap (answer call) first ∙ leads .done, ap (lentAfter call) first ∙ leads .there)
+
 -- an edit that the claim lets succeed leads to the board of the changed map
 accepted-edit-leads : (m : Map) (place : ℕ) (r : List ℕ) (o : Object) (words : List ℕ) (numbers : List Float) → AcceptedMap m → place < length (m .objects)
     → objectIn r ≡ good o → isAccepted (changed m place o) ≡ true → Leads m place o words numbers
@@ -150,6 +170,26 @@ no-13-read s b ts cs p d h e =
     let left = left-by-every-list s b ts cs d h in
     let m = mapAfterAll cs (mapIn (fileOf s)) in
     never-13-read m _ _ p (left .0) (sym (ap (λ l. answer (read (length (m .objects)) (m .settings) (timesOf (m .breaks)) p) l) (left .1)) ∙ e)
+
+-- entry 0, which covers no place, and the words behind the board are as they were
+no-covers-0 : (c p : ℕ) → 1 ≤ c → Covers c 0 p → ⊥
+no-covers-0 c p h (own e) = omega (arith, h, e)
+no-covers-0 c p h (left k g r) = omega (arith, k)
+no-covers-0 c p h (right k g r) = omega (arith, k)
+
+entry-0-kept : (b : List ℕ) (ts : List Float) (n place : ℕ) (r : List ℕ) (w : List ℕ × List Float) → editOf b ts n place r ≡ good w
+    → (entryAt (w .0) 0 ≡ entryAt b 0) × (length (w .0) ≡ length b) × (drop (placeWords * capOf n) (w .0) ≡ drop (placeWords * capOf n) b)
+entry-0-kept b ts n place r w e =
+    let t = edit-touches-only b ts n place r w e in
+    (t .words .others 0 (no-covers-0 (capOf n) place (omega (arith, t .inside))), t .words .size, t .words .behind)
+
+-- on the largest board the 14th entry on the way up is the top: one more would be entry 0
+top-is-last : (b : List ℕ) (ts : List Float) (n place : ℕ) (r : List ℕ) (w : List ℕ × List Float) → editOf b ts n place r ≡ good w → capOf n ≡ 2 ^ 13
+    → (x : ℕ) → Covers (capOf n) x place → 1 ≤ x
+top-is-last b ts n place r w e full x h =
+    let way = edit-touches-only b ts n place r w e .covering x h in
+    let least : 2 ^ way .0 ≤ 2 ^ 13 = pow-mono {j = 13} (omega (arith, way .1)) in
+    subst (λ (y : ℕ). 1 ≤ y) (sym (way .2)) (le-div-iff-mul-le (pow-pos (way .0)) .1 (omega (arith, least, full)))
 
 -- an edit of the first object leaves the second one's start time
 second-start : (b : List ℕ) (ts : List Float) (n : ℕ) (r : List ℕ) (w : List ℕ × List Float) → editOf b ts n 0 r ≡ good w → getD (w .1) 1 nan ≡ getD ts 1 nan

@@ -14,5 +14,5 @@ steps : map bitsOfExp (
     ∷ 0xc085_e000_0000_0000 ∷ 0xc085_e000_0000_0001 ∷ 0x4086_2800_0000_0000 ∷ 0x4086_3000_0000_0000 ∷ 0x7ff0_0000_0000_0000 ∷ [])
     ≡ (0x3ff0_0000_0000_0000 ∷ 0x3ff0_0000_0000_0000 ∷ 0x4005_bf0a_8b14_5459 ∷ 0x3fd7_8b56_362c_f004 ∷ 0x4061_a599_4df0_1684 ∷ 0x3f06_a44b_09f7_eec3
     ∷ 0x00d1_4fec_7c9d_fe95 ∷ 0x0000_0000_0000_0000 ∷ 0x7fdd_41c2_d96c_0e50 ∷ 0x7ff0_0000_0000_0000 ∷ 0x7ff0_0000_0000_0000 ∷ [])
-unfolding expOf seriesOf squared ofInt ofBits toBits round add mul div lt neg sum map
+unfolding expOf seriesOf squared ofInt ofBits toBits round add mul div lt neg sum
 steps = refl

@@ -34,6 +34,9 @@ sliderBreaksOf p a effective factor =
 abbrev pub bothOf : Play → OsuDifficultyAttributes → Float → SliderFactors → SliderBreaks
 bothOf p a effective f = record { aim = sliderBreaksOf p a effective (f .aim); speed = sliderBreaksOf p a effective (f .speed) }
 
+abbrev pub noBreaks : SliderBreaks
+noBreaks = record { aim = whole 0; speed = whole 0 }
+
 -- "an effective count of 0 gives 0"
 unfoldable pub breaksOf : Play → OsuDifficultyAttributes → Float → SliderFactors → SliderBreaks
-breaksOf p a effective f = pick (lt (whole 0) effective) (bothOf p a effective f) (record { aim = whole 0; speed = whole 0 })
+breaksOf p a effective f = pick (lt (whole 0) effective) (bothOf p a effective f) noBreaks

@@ -7,7 +7,7 @@ use numbers::rounding::float;
 use play_state::Play;
 use simulator::attributes::OsuDifficultyAttributes;
 ghost use mathlib.Core.Path.{_≡_};
-ghost use Rattle.slider_breaks.specs.SliderBreaks.{adjustedOf, bothOf, breaksOf};
+ghost use Rattle.slider_breaks.specs.SliderBreaks.{noBreaks, adjustedOf, bothOf, breaksOf};
 
 // The Rust's `aim_top_weighted_slider_factor` and `speed_top_weighted_slider_factor`.
 pub struct SliderFactors {
@@ -19,6 +19,17 @@ pub struct SliderFactors {
 pub struct SliderBreaks {
     pub aim: f64,
     pub speed: f64,
+}
+
+impl SliderBreaks {
+    pub fn none() -> SliderBreaks
+        ensures { λ r. ⌜ r ≡ noBreaks ⌝ }
+    {
+        SliderBreaks {
+            aim: 0.0,
+            speed: 0.0,
+        }
+    }
 }
 
 // The breaks of one factor from their count, which is at most n100; `step` and `likely` are those of `smoothstep` and `logistic`.
@@ -41,16 +52,10 @@ pub fn calculate_estimated_slider_breaks(
 {
     let origin = play.origin;
     if !is_classic(origin) {
-        return SliderBreaks {
-            aim: 0.0,
-            speed: 0.0,
-        };
+        return SliderBreaks::none();
     }
     if play.hitresults.n100 == 0 {
-        return SliderBreaks {
-            aim: 0.0,
-            speed: 0.0,
-        };
+        return SliderBreaks::none();
     }
     let n100 = float(play.hitresults.n100 as u64);
     let missed_combo_percent = 1.0 - float(play.max_combo as u64) / float(attrs.max_combo as u64);
@@ -74,8 +79,5 @@ pub fn slider_breaks(
     if effective > 0.0 {
         return calculate_estimated_slider_breaks(play, attrs, effective, factors);
     }
-    SliderBreaks {
-        aim: 0.0,
-        speed: 0.0,
-    }
+    SliderBreaks::none()
 }

@@ -20,7 +20,7 @@ pub fn smoothstep(x: f64, start: f64, end: f64) -> f64
 
 // With the most that the Rust takes where none is given, 1.
 pub fn logistic(x: f64, midpoint_offset: f64, multiplier: f64) -> f64
-    ensures { λ r. ⌜ r ≡ logisticOf x midpoint_offset multiplier ⌝ }
+    ensures { λ r. ⌜ r ≡ logisticOf x «midpoint_offset» multiplier ⌝ }
 {
     1.0 / (1.0 + exp(multiplier * (midpoint_offset - x)))
 }

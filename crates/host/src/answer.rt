@@ -159,7 +159,7 @@ pub fn map_answer_of(score: MapScore) -> MapAnswer
     }
 }
 
-fn play_answer_in(score: PlayScore) -> PlayAnswer
+pub fn play_answer_in(score: PlayScore) -> PlayAnswer
     ensures { λ r. ⌜ r ≡ playAnswerIn score ⌝ }
 {
     let attributes = score.attributes;
@@ -172,7 +172,7 @@ fn play_answer_in(score: PlayScore) -> PlayAnswer
     }
 }
 
-fn play_answer_refused(number: u8, offset: usize) -> PlayAnswer
+pub fn play_answer_refused(number: u8, offset: usize) -> PlayAnswer
     ensures { λ r. ⌜ r ≡ playAnswerRefused number offset ⌝ }
 {
     PlayAnswer {

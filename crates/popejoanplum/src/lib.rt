@@ -3,6 +3,7 @@
 
 use board::edit::edit;
 use board::read::read;
+use board::read::read_breaks;
 use board_build::build;
 use entries::entry::Entry;
 use host::answer::MapAnswer;
@@ -10,6 +11,10 @@ use host::answer::PlayAnswer;
 use host::answer::given_answer_of;
 use host::answer::listed_answer_of;
 use host::answer::map_answer_of;
+use host::breaks::BreaksAnswer;
+use host::breaks::HostFactors;
+use host::breaks::breaks_answer_of;
+use host::breaks::factors_in;
 use host::map::HostSettings;
 use host::map::MapInfo;
 use host::map::map_info_of;
@@ -23,6 +28,7 @@ use records::hit_object::HitObject;
 use scoring::score::score_map;
 use scoring::score::score_play;
 use scoring::score::score_play_at;
+use scoring::score::score_play_breaks;
 use tree::size_of;
 ghost use mathlib.Core.Path.{_≡_};
 ghost use Rattle.map_file.specs.File.{fileOf};
@@ -37,6 +43,8 @@ ghost use Rattle.host.specs.Status.{boardWords, statusLeft};
 ghost use Rattle.host.specs.Map.{settingsIn, mapInfoOf};
 ghost use Rattle.host.specs.Play.{playIn};
 ghost use Rattle.host.specs.Answer.{mapAnswerOf, givenAnswerOf, listedAnswerOf};
+ghost use Rattle.slider_breaks.specs.Given.{withBreaks};
+ghost use Rattle.host.specs.Breaks.{factorsIn, breaksAnswerOf};
 
 // How many words a board for as many objects has; 0 where no map has as many.
 #[no_mangle]
@@ -71,6 +79,18 @@ pub extern "C" fn pjp_score_play(file: &[u8], play: HostPlay) -> PlayAnswer
     ensures { λ r. ⌜ r ≡ givenAnswerOf (givenPlayOf (playIn play) (scoresOf (fileOf (now (file .entry))))) ⌝ }
 {
     given_answer_of(score_play(file, play_in(play)))
+}
+
+// A play that is given beside the file, with its slider breaks.
+#[no_mangle]
+pub extern "C" fn pjp_score_play_breaks(
+    file: &[u8],
+    play: HostPlay,
+    factors: HostFactors,
+) -> BreaksAnswer
+    ensures { λ r. ⌜ r ≡ breaksAnswerOf (withBreaks (playIn play) (factorsIn factors) (givenPlayOf (playIn play) (scoresOf (fileOf (now (file .entry)))))) ⌝ }
+{
+    breaks_answer_of(score_play_breaks(file, play_in(play), factors_in(factors)))
 }
 
 // The play at an index of the file.
@@ -123,5 +143,30 @@ pub extern "C" fn pjp_read(
         settings_in(settings),
         breaks,
         play_in(play),
+    ))
+}
+
+// A play on the first objects of a board for `count` objects, with its slider breaks.
+#[no_mangle]
+pub extern "C" fn pjp_read_breaks(
+    board: &[u64],
+    starts: &[f64],
+    count: usize,
+    settings: HostSettings,
+    breaks: &[f64],
+    play: HostPlay,
+    factors: HostFactors,
+) -> BreaksAnswer
+    ensures { λ r. ⌜ r ≡ breaksAnswerOf (withBreaks (playIn play) (factorsIn factors) (givenAnswer (readOf (now (board .entry)) (now (starts .entry)) count (settingsIn settings) (now (breaks .entry)) (playIn play)))) ⌝ }
+    ensures { λ _. ⌜ (now (board .exit) ≡ now (board .entry)) × (now (starts .exit) ≡ now (starts .entry)) × (now (breaks .exit) ≡ now (breaks .entry)) ⌝ }
+{
+    breaks_answer_of(read_breaks(
+        board,
+        starts,
+        count,
+        settings_in(settings),
+        breaks,
+        play_in(play),
+        factors_in(factors),
     ))
 }

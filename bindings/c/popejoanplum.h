@@ -128,14 +128,14 @@ typedef struct {
 typedef struct {
     double aim;
     double speed;
-} pjp_factors;
+} pjp_slider_factors;
 
 /* How many sliders a play broke, as estimated from the effective misses by each factor: from 0 to n100 (slider_breaks/proofs/Range). 0 where effective
  * is 0, with origin 1 and without a 100. */
 typedef struct {
     double aim;
     double speed;
-} pjp_breaks;
+} pjp_slider_breaks;
 
 /* What a map file holds. Where the status is not 0 every value is 0. */
 typedef struct {
@@ -167,7 +167,7 @@ typedef struct {
     size_t offset;
     pjp_attributes attributes;
     pjp_estimates estimates;
-    pjp_breaks breaks;
+    pjp_slider_breaks slider_breaks;
 } pjp_breaks_answer;
 
 /* How many words a board for that many objects has: 26 times the smallest power of two that is not below it, 26 at least. 0 above PJP_MAX_OBJECTS,
@@ -186,7 +186,7 @@ pjp_map_answer pjp_score_map(const uint8_t *file, size_t length);
 pjp_play_answer pjp_score_play(const uint8_t *file, size_t length, pjp_play play);
 
 /* What pjp_score_play gives, and the slider breaks by two factors. Refuses what pjp_score_play refuses, then with offset 0 PJP_FACTOR. */
-pjp_breaks_answer pjp_score_play_breaks(const uint8_t *file, size_t length, pjp_play play, pjp_factors factors);
+pjp_breaks_answer pjp_score_play_breaks(const uint8_t *file, size_t length, pjp_play play, pjp_slider_factors factors);
 
 /* The score of the play at an index of a map file, from 0 in the order of its PL records; PJP_NO_PLAY if it has fewer. */
 pjp_play_answer pjp_score_play_at(const uint8_t *file, size_t length, uint64_t index);
@@ -231,7 +231,7 @@ pjp_breaks_answer pjp_read_breaks(
     const double *breaks,
     size_t times,
     pjp_play play,
-    pjp_factors factors);
+    pjp_slider_factors factors);
 
 /* Copies the start and the end of each break of an ACCEPTED map file to `times`, which has room for twice `breaks`, the number that pjp_read_map told
  * of that file: the header takes 14 bytes, each break 18, of which 2 are its mark. Of another file it may read past the end. It is not of the archive

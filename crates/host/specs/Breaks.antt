@@ -14,17 +14,17 @@ use Rattle.host.specs.declared.breaks.BreaksAnswer.{BreaksAnswer}
 abbrev pub factorsIn : HostFactors → SliderFactors
 factorsIn f = record { aim = f .aim; speed = f .speed }
 
--- the answer of the call without factors, and the breaks
+-- the answer of the call without factors, and the slider breaks
 abbrev pub answerWith : PlayAnswer → SliderBreaks → BreaksAnswer
 answerWith a b = record {
   status = a .status;
   offset = a .offset;
   attributes = a .attributes;
   estimates = a .estimates;
-  breaks = record { aim = b .aim; speed = b .speed };
+  «slider_breaks» = record { aim = b .aim; speed = b .speed };
 }
 
 -- of a play that is given with factors beside a file or a board; a refusal has none of the values
 abbrev pub breaksAnswerOf : GivenBreaks → BreaksAnswer
-breaksAnswerOf (given·breaks.Score s) = answerWith (playAnswerIn (s .score)) (s .breaks)
+breaksAnswerOf (given·breaks.Score s) = answerWith (playAnswerIn (s .score)) (s .«slider_breaks»)
 breaksAnswerOf (given·breaks.Refused number offset) = answerWith (playAnswerRefused number offset) noBreaks

@@ -17,19 +17,19 @@ pub struct HostFactors {
 }
 
 #[repr(C)]
-pub struct HostBreaks {
+pub struct HostSliderBreaks {
     pub aim: f64,
     pub speed: f64,
 }
 
-// The fields of `PlayAnswer`, and the breaks.
+// The fields of `PlayAnswer`, and the slider breaks.
 #[repr(C)]
 pub struct BreaksAnswer {
     pub status: u8,
     pub offset: usize,
     pub attributes: HostAttributes,
     pub estimates: HostEstimates,
-    pub breaks: HostBreaks,
+    pub slider_breaks: HostSliderBreaks,
 }
 
 pub fn factors_in(f: HostFactors) -> SliderFactors
@@ -51,7 +51,7 @@ fn answer_with(answer: PlayAnswer, b: SliderBreaks) -> BreaksAnswer
         offset: answer.offset,
         attributes,
         estimates,
-        breaks: HostBreaks {
+        slider_breaks: HostSliderBreaks {
             aim: b.aim,
             speed: b.speed,
         },
@@ -65,8 +65,8 @@ pub fn breaks_answer_of(play: GivenBreaks) -> BreaksAnswer
     match play {
         GivenBreaks::Score(scored) => {
             let score = scored.score;
-            let breaks = scored.breaks;
-            answer_with(play_answer_in(score), breaks)
+            let slider_breaks = scored.slider_breaks;
+            answer_with(play_answer_in(score), slider_breaks)
         }
         GivenBreaks::Refused { number, offset } => {
             answer_with(play_answer_refused(number, offset), SliderBreaks::none())

@@ -9,7 +9,7 @@ use Rattle.play_state.specs.declared.Play.{Play}
 use Rattle.play_score.specs.declared.PlayScore.{PlayScore}
 use Rattle.play_score.specs.declared.GivenPlay.{GivenPlay}
 use Rattle.play_score.specs.declared.GivenPlay.the-variants as given
-use Rattle.slider_breaks.specs.SliderBreaks.{breaksOf}
+use Rattle.slider_breaks.specs.SliderBreaks.{estimatedBreaks}
 use Rattle.slider_breaks.specs.declared.calculator.SliderFactors.{SliderFactors}
 use Rattle.slider_breaks.specs.declared.BreaksScore.{BreaksScore}
 use Rattle.slider_breaks.specs.declared.GivenBreaks.{GivenBreaks}
@@ -24,7 +24,7 @@ factorsBad f = not (isFactor (f .aim)) || not (isFactor (f .speed))
 
 -- all that the call without factors gives, and the two estimates
 abbrev pub breaksScore : Play → SliderFactors → PlayScore → BreaksScore
-breaksScore p f s = record { score = s; breaks = breaksOf p (s .attributes .difficulty) (s .estimates .effective) f }
+breaksScore p f s = record { score = s; «slider_breaks» = estimatedBreaks p (s .attributes .difficulty) (s .estimates .effective) f }
 
 -- "14: a factor out of range or not finite; checked last", with offset 0
 abbrev pub withBreaks : Play → SliderFactors → GivenPlay → GivenBreaks

@@ -38,5 +38,5 @@ abbrev pub noBreaks : SliderBreaks
 noBreaks = record { aim = whole 0; speed = whole 0 }
 
 -- "an effective count of 0 gives 0"
-unfoldable pub breaksOf : Play → OsuDifficultyAttributes → Float → SliderFactors → SliderBreaks
-breaksOf p a effective f = pick (lt (whole 0) effective) (bothOf p a effective f) noBreaks
+unfoldable pub estimatedBreaks : Play → OsuDifficultyAttributes → Float → SliderFactors → SliderBreaks
+estimatedBreaks p a effective f = pick (lt (whole 0) effective) (bothOf p a effective f) noBreaks

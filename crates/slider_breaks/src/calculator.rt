@@ -7,7 +7,7 @@ use numbers::rounding::float;
 use play_state::Play;
 use simulator::attributes::OsuDifficultyAttributes;
 ghost use mathlib.Core.Path.{_≡_};
-ghost use Rattle.slider_breaks.specs.SliderBreaks.{noBreaks, adjustedOf, bothOf, breaksOf};
+ghost use Rattle.slider_breaks.specs.SliderBreaks.{noBreaks, adjustedOf, bothOf, estimatedBreaks};
 
 // The Rust's `aim_top_weighted_slider_factor` and `speed_top_weighted_slider_factor`.
 pub struct SliderFactors {
@@ -74,7 +74,7 @@ pub fn slider_breaks(
     effective: f64,
     factors: SliderFactors,
 ) -> SliderBreaks
-    ensures { λ r. ⌜ r ≡ breaksOf play attrs effective factors ⌝ }
+    ensures { λ r. ⌜ r ≡ estimatedBreaks play attrs effective factors ⌝ }
 {
     if effective > 0.0 {
         return calculate_estimated_slider_breaks(play, attrs, effective, factors);

@@ -15,7 +15,7 @@ pub mod difficulty; // its two curves
 // The score of a play as it is without factors, and its slider breaks.
 pub struct BreaksScore {
     pub score: PlayScore,
-    pub breaks: SliderBreaks,
+    pub slider_breaks: SliderBreaks,
 }
 
 // The answer for a play and factors that are given beside its map.
@@ -59,7 +59,10 @@ pub fn with_breaks(play: Play, factors: SliderFactors, given: GivenPlay) -> Give
             let difficulty = score.attributes.difficulty;
             let effective = score.estimates.effective;
             let breaks = slider_breaks(play, difficulty, effective, factors);
-            GivenBreaks::Score(BreaksScore { score, breaks })
+            GivenBreaks::Score(BreaksScore {
+                score,
+                slider_breaks: breaks,
+            })
         }
     }
 }

@@ -1,4 +1,5 @@
--- On any lent memory a refused edit or read has one of document 01's numbers, 2 to 13, and no refusal has number 0, which a host takes for a good call.
+-- On any lent memory a refused edit or read has one of document 01's numbers, 2 to 13, with factors 14 too, and no refusal has number 0, which a host
+-- takes for a good call.
 -- And what a play is told of its misses lies from its misses to its judgements. Assumes nothing.
 use mathlib.Core.Bool.{Bool, true, false, cond}
 use mathlib.Core.List.{List, [], _∷_}
@@ -11,17 +12,27 @@ use lib.Ieee.{Float, nan}
 use lib.ListN.{getD}
 use Rattle.numbers.specs.Floats.{whole}
 use Rattle.numbers.proofs.Order.{whole-le}
-use Rattle.rules.specs.Refusals.{Checked, good, refused, _>>=_, _>>_, refuse_when_, pick}
+use Rattle.rules.specs.Refusals.{Checked, good, refused, _>>=_, _>>_, refuse_when_, pick, FACTOR}
 use Rattle.rules.proofs.Laws.{never}
 use Rattle.play_state.specs.declared.Play.{Play}
 use Rattle.records.specs.declared.beatmap.Settings.{Settings}
+use Rattle.map_file.specs.File.{fileOf}
 use Rattle.encoding.specs.Limits.{HitsWithin}
+use Rattle.simulator.specs.Attributes.{scoreAttributesAt}
 use Rattle.simulator.specs.declared.attributes.OsuDifficultyAttributes.{OsuDifficultyAttributes}
 use Rattle.miss_calc.specs.Counts.{totalHits}
 use Rattle.estimates.specs.Effective.{estimatesOf}
 use Rattle.estimates.proofs.Range.{FromMissesToJudgements, effective-range}
+use Rattle.play_score.specs.PlayRules.{givenAnswer, givenScore}
+use Rattle.play_score.specs.declared.PlayScore.{PlayScore}
 use Rattle.play_score.specs.declared.GivenPlay.the-variants as given
-use Rattle.scoring.proofs.Rules.{Ruled, fine, rule, ruled-score-of}
+use Rattle.slider_breaks.specs.Given.{factorsBad, breaksScore, withBreaks}
+use Rattle.slider_breaks.specs.declared.calculator.SliderFactors.{SliderFactors}
+use Rattle.slider_breaks.specs.declared.BreaksScore.{BreaksScore}
+use Rattle.slider_breaks.specs.declared.GivenBreaks.{GivenBreaks}
+use Rattle.slider_breaks.specs.declared.GivenBreaks.the-variants as breaks
+use Rattle.scoring.specs.Scores.{Outcome, refusal, values, Scores, scoresOf, givenPlayOf}
+use Rattle.scoring.proofs.Rules.{Ruled, fine, rule, ruled-score-of, refusal-rule}
 use Rattle.entries.specs.Entry.{entryOf, none}
 use Rattle.entries.specs.Words.{entryAt}
 use Rattle.entries.specs.declared.entry.Entry.{Entry}
@@ -35,7 +46,7 @@ use Rattle.board.specs.Search.{timeBad, startsIn, foundOf}
 use Rattle.board.specs.Read.{attributesFrom, scoreFrom, readOf}
 use Rattle.board.specs.declared.place.Written.the-variants as written
 use Rattle.board.specs.declared.search.Starts.{Starts}
-use Rattle.demands.proofs.Boards.{record-ruled}
+use Rattle.demands.proofs.Boards.{record-ruled, score-ruled}
 
 -- a value, or one of the numbers 2 to 13
 pub data Numbered {A : Type 0} : Checked A → Type 0 where
@@ -110,6 +121,33 @@ read-numbered b ts n s br p =
     (numbered-bind _ _ (walked-numbered (levelsOf n + 1) b 1 (min (p .«passed_objects») n) none) (λ sum.
     numbered-bind _ _ (starts-numbered ts n (min (p .«passed_objects») n)) (λ ends. numbered-then _ _ (numbered-when 13 _ (omega arith) (omega arith)) value)))
     (λ found. numbered-rule (ruled-score-of p (attributesFrom found s br n)))))))
+
+-- ---- with factors
+-- values, or one of the numbers 2 to 14
+pub data BreaksNumbered : GivenBreaks → Type 0 where
+  scored : {s : BreaksScore} → BreaksNumbered (breaks.Score s)
+  numbered : {n at : ℕ} → 2 ≤ n → n ≤ 14 → BreaksNumbered (breaks.Refused n at)
+
+numbered-with : (p : Play) (f : SliderFactors) (x : Checked PlayScore) → Numbered x → BreaksNumbered (withBreaks p f (givenAnswer x))
+numbered-with p f (refused n) (number l h) = numbered l (omega (arith, h))
+numbered-with p f (good s) value = go (factorsBad f)
+  where
+    go : (t : Bool) → BreaksNumbered (pick t (breaks.Refused FACTOR 0) (breaks.Score (breaksScore p f s)))
+    go true = numbered {n = FACTOR} (omega arith) (omega arith)
+    go false = scored
+
+pub read-breaks-numbered : (b : List ℕ) (ts : List Float) (n : ℕ) (s : Settings) (br : List Float) (p : Play) (f : SliderFactors)
+    → BreaksNumbered (withBreaks p f (givenAnswer (readOf b ts n s br p)))
+read-breaks-numbered b ts n s br p f = numbered-with p f (readOf b ts n s br p) (read-numbered b ts n s br p)
+
+pub play-breaks-numbered : (s : List ℕ) (p : Play) (f : SliderFactors) → BreaksNumbered (withBreaks p f (givenPlayOf p (scoresOf (fileOf s))))
+play-breaks-numbered s p f = go (scoresOf (fileOf s)) refl
+  where
+    go : (x : Outcome Scores) → scoresOf (fileOf s) ≡ x → BreaksNumbered (withBreaks p f (givenPlayOf p x))
+    go (refusal n at) e = let r = refusal-rule s n at e in numbered (r .0) (omega (arith, r .1))
+    go (values sc) e =
+        let a = scoreAttributesAt (sc .map) (p .«passed_objects») in
+        numbered-with p f (givenScore p a) (numbered-rule (score-ruled p a))
 
 -- ---- so none has number 0
 not-0 : {A : Type 0} {x : Checked A} → Numbered x → x ≡ refused 0 → ⊥

@@ -29,7 +29,12 @@ use Rattle.simulator.proofs.Exact.{rustSpinnerScore}
 use Rattle.miss_calc.specs.Counts.{totalHits}
 use Rattle.estimates.specs.Effective.{estimatesOf}
 use Rattle.play_score.specs.declared.GivenPlay.the-variants as given
-use Rattle.scoring.specs.Scores.{refusal, values, Scores, scoresOf}
+use Rattle.play_score.specs.PlayRules.{givenAnswer}
+use Rattle.slider_breaks.specs.Given.{withBreaks}
+use Rattle.slider_breaks.specs.declared.calculator.SliderFactors.{SliderFactors}
+use Rattle.slider_breaks.specs.declared.GivenBreaks.{GivenBreaks}
+use Rattle.slider_breaks.specs.declared.GivenBreaks.the-variants as breaks
+use Rattle.scoring.specs.Scores.{refusal, values, Scores, scoresOf, givenPlayOf}
 use Rattle.entries.specs.Entry.{placeWords}
 use Rattle.entries.specs.Words.{entryAt}
 use Rattle.tree.specs.Board.{Covers, own, left, right}
@@ -42,11 +47,11 @@ use Rattle.board_build.specs.Build.{built}
 use Rattle.listing.specs.Listing.{inputText, listedOf}
 use Rattle.listing.specs.declared.Listed.{Listed}
 use Rattle.listing.specs.declared.Listed.the-variants as listed
-use Rattle.demands.specs.Calls.{isAccepted, AcceptedMap, changed, timesOf, mapIn, lentFor, lentBy, Call, edit, read, edits, reads, answer, lentAfter, mapAfterAll, lentAfterAll, MayStand}
-use Rattle.demands.proofs.Refusals.{Numbered, value, number}
+use Rattle.demands.specs.Calls.{isAccepted, AcceptedMap, changed, timesOf, mapIn, lentFor, lentBy, Call, edit, read, read-breaks, edits, reads, reads-breaks, answer, lentAfter, mapAfterAll, lentAfterAll, MayStand}
+use Rattle.demands.proofs.Refusals.{Numbered, value, number, BreaksNumbered, scored, numbered}
 use Rattle.demands.proofs.Files.{scoredPlays}
 use Rattle.demands.proofs.Boards.{Leads}
-use Rattle.demands.proofs.Demands.{every-listing-fits, refused-by-a-rule, refused-edit-by-a-rule, refused-read-by-a-rule, accepted-keeps-the-rules, keeping-the-rules-is-accepted, no-number-only-when-the-rules-are-kept, no-number-when-the-rules-are-kept, every-combo-product-is-exact, values-are-the-definition's, effective-misses-in-range, every-spinner-sum-is-exact, accepted-maps-are-within, accepted-map-gets-no-number, every-accepted-map-is-built, maps-within-are-accepted, left-by-every-list, changed-map-accepted, one-edit-leads, edit-touches-only, never-13-edit, never-13-read}
+use Rattle.demands.proofs.Demands.{every-listing-fits, refused-by-a-rule, refused-edit-by-a-rule, refused-read-by-a-rule, refused-play-breaks-by-a-rule, refused-read-breaks-by-a-rule, accepted-keeps-the-rules, keeping-the-rules-is-accepted, no-number-only-when-the-rules-are-kept, no-number-when-the-rules-are-kept, every-combo-product-is-exact, values-are-the-definition's, effective-misses-in-range, every-spinner-sum-is-exact, accepted-maps-are-within, accepted-map-gets-no-number, every-accepted-map-is-built, maps-within-are-accepted, left-by-every-list, changed-map-accepted, one-edit-leads, edit-touches-only, never-13-edit, never-13-read, never-13-read-breaks}
 
 -- ---- Demand 1
 -- no listing is cut
@@ -77,6 +82,22 @@ no-edit-gets-0 b ts n place r = not-0 (editOf b ts n place r) (refused-edit-by-a
 
 no-read-gets-0 : (b : List ℕ) (ts : List Float) (n : ℕ) (s : Settings) (br : List Float) (p : Play) → readOf b ts n s br p ≢ refused 0
 no-read-gets-0 b ts n s br p = not-0 (readOf b ts n s br p) (refused-read-by-a-rule b ts n s br p)
+
+-- with factors neither 0 nor 15, which would be a heat's
+abbrev breaksNumber : GivenBreaks → ℕ
+breaksNumber (breaks.Score s) = 1
+breaksNumber (breaks.Refused n at) = n
+
+between : (x : GivenBreaks) → BreaksNumbered x → (1 ≤ breaksNumber x) × (breaksNumber x ≤ 14)
+between (breaks.Score s) scored = (omega arith, omega arith)
+between (breaks.Refused n at) (numbered l h) = (omega (arith, l), h)
+
+no-play-with-factors-gets-0 : (s : List ℕ) (p : Play) (f : SliderFactors) (at : ℕ) → withBreaks p f (givenPlayOf p (scoresOf (fileOf s))) ≢ breaks.Refused 0 at
+no-play-with-factors-gets-0 s p f at e = omega (arith, between _ (refused-play-breaks-by-a-rule s p f) .0, ap breaksNumber e)
+
+no-read-with-factors-gets-15 : (b : List ℕ) (ts : List Float) (n : ℕ) (s : Settings) (br : List Float) (p : Play) (f : SliderFactors) (at : ℕ)
+    → withBreaks p f (givenAnswer (readOf b ts n s br p)) ≢ breaks.Refused 15 at
+no-read-with-factors-gets-15 b ts n s br p f at e = omega (arith, between _ (refused-read-breaks-by-a-rule b ts n s br p f) .1, ap breaksNumber e)
 
 -- the map of an accepted file, without the file's plays, has a file that is accepted
 map-alone : (s : List ℕ) (sc : Scores) → scoresOf (fileOf s) ≡ values sc → scoresOf (fileOf (mapFile (sc .map))) ≡ values (record { map = sc .map; plays = [] })
@@ -170,6 +191,16 @@ no-13-read s b ts cs p d h e =
     let left = left-by-every-list s b ts cs d h in
     let m = mapAfterAll cs (mapIn (fileOf s)) in
     never-13-read m _ _ p (left .0) (sym (ap (λ l. answer (read (length (m .objects)) (m .settings) (timesOf (m .breaks)) p) l) (left .1)) ∙ e)
+
+no-13-read-breaks : (s : List ℕ) (b : List ℕ) (ts : List Float) (cs : List Call) (p : Play) (f : SliderFactors)
+    → built (scoresOf (fileOf s)) b ts .0 ≡ written.Done
+    → MayStand cs (mapIn (fileOf s)) (lentBy s b ts)
+    → answer (read-breaks (length (mapAfterAll cs (mapIn (fileOf s)) .objects)) (mapAfterAll cs (mapIn (fileOf s)) .settings) (timesOf (mapAfterAll cs (mapIn (fileOf s)) .breaks)) p f) (lentAfterAll cs (lentBy s b ts))
+    ≢ reads-breaks (breaks.Refused BOARD 0)
+no-13-read-breaks s b ts cs p f d h e =
+    let left = left-by-every-list s b ts cs d h in
+    let m = mapAfterAll cs (mapIn (fileOf s)) in
+    never-13-read-breaks m _ _ p f (left .0) (sym (ap (λ l. answer (read-breaks (length (m .objects)) (m .settings) (timesOf (m .breaks)) p f) l) (left .1)) ∙ e)
 
 -- entry 0, which covers no place, and the words behind the board are as they were
 no-covers-0 : (c p : ℕ) → 1 ≤ c → Covers c 0 p → ⊥

@@ -160,13 +160,8 @@ pub extern "C" fn pjp_read_breaks(
     ensures { λ r. ⌜ r ≡ breaksAnswerOf (withBreaks (playIn play) (factorsIn factors) (givenAnswer (readOf (now (board .entry)) (now (starts .entry)) count (settingsIn settings) (now (breaks .entry)) (playIn play)))) ⌝ }
     ensures { λ _. ⌜ (now (board .exit) ≡ now (board .entry)) × (now (starts .exit) ≡ now (starts .entry)) × (now (breaks .exit) ≡ now (breaks .entry)) ⌝ }
 {
-    breaks_answer_of(read_breaks(
-        board,
-        starts,
-        count,
-        settings_in(settings),
-        breaks,
-        play_in(play),
-        factors_in(factors),
-    ))
+    let map = settings_in(settings);
+    let given = play_in(play);
+    let by = factors_in(factors);
+    breaks_answer_of(read_breaks(board, starts, count, map, breaks, given, by))
 }

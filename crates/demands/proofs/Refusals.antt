@@ -1,17 +1,21 @@
 -- On any lent memory a refused edit or read has one of document 01's numbers, 2 to 13, with factors 14 too, and no refusal has number 0, which a host
 -- takes for a good call.
 -- And what a play is told of its misses lies from its misses to its judgements. Assumes nothing.
-use mathlib.Core.Bool.{Bool, true, false, cond}
+use mathlib.Core.Bool.{Bool, true, false, cond, _&&_, _||_, true≢false}
 use mathlib.Core.List.{List, [], _∷_}
-use mathlib.Core.Path.{_≡_, refl}
-use Prim.Native.Nat.{ℕ, zero, suc, _+_, _-_, _*_, _/_, _^_, _≤_, min}
+use mathlib.Core.Path.{_≡_, refl, sym}
+use Prim.Native.Nat.{ℕ, zero, suc, _+_, _-_, _*_, _/_, _^_, _≤_, min, zero-le}
+use native.Mathlib.Nat.{mul-pos, zero-lt-suc}
 use native.Mathlib.Omega.{arith}
-use borrow.Author.Tests.{eqb-true}
-use lib.Dec.{eqb, leb}
-use lib.Ieee.{Float, nan}
+use borrow.Author.Tests.{eqb-true, le-ltb}
+use lib.Dec.{T, eqb, leb, lit≤}
+use lib.Ieee.{Float, nan, inf, fin, up, down, le, lt, eq, isNan, ofInt}
+use lib.Ieee.Fits.{up-pos, down-pos}
 use lib.ListN.{getD}
 use Rattle.numbers.specs.Floats.{whole}
-use Rattle.numbers.proofs.Order.{whole-le}
+use Rattle.numbers.proofs.Bounds.{plain}
+use Rattle.numbers.proofs.Order.{whole-le, le-of-not-lt}
+use Rattle.numbers.proofs.Intervals.{whole-at-least, of-tests-between, wider, between-below}
 use Rattle.rules.specs.Refusals.{Checked, good, refused, _>>=_, _>>_, refuse_when_, pick, FACTOR}
 use Rattle.rules.proofs.Laws.{never}
 use Rattle.play_state.specs.declared.Play.{Play}
@@ -160,14 +164,51 @@ edit-not-0 b ts n place r = not-0 (edit-numbered b ts n place r)
 pub read-not-0 : (b : List ℕ) (ts : List Float) (n : ℕ) (s : Settings) (br : List Float) (p : Play) → readOf b ts n s br p ≡ refused 0 → ⊥
 read-not-0 b ts n s br p = not-0 (read-numbered b ts n s br p)
 
--- ---- the misses of a play, by the widths of its fields
-pub effective-of-a-play : (p : Play) (a : OsuDifficultyAttributes) → HitsWithin (p .hitresults) → FromMissesToJudgements (estimatesOf p a .effective) (p .hitresults)
+-- ---- the misses of a play
+judged-range : (p : Play) (a : OsuDifficultyAttributes) → totalHits (p .hitresults) ≤ 262140 → FromMissesToJudgements (estimatesOf p a .effective) (p .hitresults)
 unfolding estimatesOf
-effective-of-a-play p a w = go (eqb (totalHits (p .hitresults)) 0) refl
+judged-range p a k = go (eqb (totalHits (p .hitresults)) 0) refl
   where
     go : (t : Bool) → eqb (totalHits (p .hitresults)) 0 ≡ t → FromMissesToJudgements (estimatesOf p a .effective) (p .hitresults)
     go true e =
         let nothing = eqb-true (totalHits (p .hitresults)) 0 e in
         let missed : p .hitresults .misses ≡ 0 = omega (arith, nothing) in
         rw e (record { above = rw missed (whole-le 0 0 (omega arith)); below = rw nothing (whole-le 0 0 (omega arith)) })
-    go false e = rw e (effective-range _ _ (p .hitresults) (omega (arith, w .n300, w .n100, w .n50, w .misses)))
+    go false e = rw e (effective-range _ _ (p .hitresults) k)
+
+-- by the widths of its fields
+pub effective-of-a-play : (p : Play) (a : OsuDifficultyAttributes) → HitsWithin (p .hitresults) → FromMissesToJudgements (estimatesOf p a .effective) (p .hitresults)
+effective-of-a-play p a w = judged-range p a (omega (arith, w .n300, w .n100, w .n50, w .misses))
+
+-- what is no less than a number that is not negative is no less than 0
+level-zero : (x y z : ℕ) → (eqb x y && (false || eqb x z)) ≡ true → z ≡ 0 → y ≡ 0
+level-zero x y z h e = go (eqb x y) (eqb x z) refl refl h
+  where
+    go : (s t : Bool) → eqb x y ≡ s → eqb x z ≡ t → (s && (false || t)) ≡ true → y ≡ 0
+    go true true q r h = let p = eqb-true x y q in let o = eqb-true x z r in omega (arith, p, o, e)
+    go true false q r h = absurd (true≢false (sym h))
+    go false t q r h = absurd (true≢false (sym h))
+
+above-none : (y x : Float) → T (plain y) → le y x ≡ true → le (whole 0) x ≡ true
+unfolding le lt eq isNan ofInt
+above-none nan x p h = absurd p
+above-none (inf s) x p h = absurd p
+above-none (fin true a k) x p h = absurd p
+above-none (fin false a k) nan p h = absurd (true≢false (sym h))
+above-none (fin false a k) (inf true) p h = absurd (true≢false (sym h))
+above-none (fin false a k) (inf false) p h = refl
+above-none (fin false a k) (fin false n d) p h = le-of-not-lt (fin false n d) (whole 0) refl refl (le-ltb (n * up d * 1) (0 * 1 * down d) (omega arith))
+above-none (fin false a k) (fin true zero d) p h = le-of-not-lt (fin true zero d) (whole 0) refl refl (le-ltb 0 (0 * up d * 1 + 0 * 1 * down d) (omega arith))
+above-none (fin false a k) (fin true (suc n) d) p h =
+    let some = mul-pos (mul-pos (zero-lt-suc n) (up-pos d)) (down-pos k) in
+    let none = level-zero (a * up k * down d) (suc n * up d * down k) 0 h refl in
+    absurd (omega (arith, some, none))
+
+-- so its effective misses lie from 0 to the most judgements
+pub effective-of-counts : (p : Play) (a : OsuDifficultyAttributes) → totalHits (p .hitresults) ≤ 262140
+    → (le (whole 0) (estimatesOf p a .effective) ≡ true) × (le (estimatesOf p a .effective) (whole 262140) ≡ true)
+effective-of-counts p a k =
+    let range = judged-range p a k in
+    let above = above-none _ _ (whole-at-least (p .hitresults .misses) (omega (arith, k)) .is) (range .above) in
+    let held = of-tests-between _ (totalHits (p .hitresults)) (omega (arith, k)) above (range .below) in
+    (above, between-below (wider 0 262140 0 held zero-le (omega (arith, k))) (lit≤ tt))

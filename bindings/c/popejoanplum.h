@@ -130,8 +130,8 @@ typedef struct {
     double speed;
 } pjp_slider_factors;
 
-/* How many sliders a play broke, as estimated from the effective misses by each factor: from 0 to n100 (slider_breaks/proofs/Range). 0 where effective
- * is 0, with origin 1 and without a 100. */
+/* How many sliders a play broke, as estimated from the effective misses by each factor: from 0 to n100 (slider_breaks/proofs/Range), and 0 where
+ * effective is at most 1, with origin 1 and without a 100. It may be not a number where a board that no build made has judgements and no combo. */
 typedef struct {
     double aim;
     double speed;

@@ -29,6 +29,7 @@ pub mod command;
 pub mod encode;
 pub mod frame;
 pub mod generate;
+pub mod given;
 pub mod listing;
 pub mod map;
 pub mod reader;

@@ -24,6 +24,7 @@ pub mod util;
 pub use stub::{Beatmap, GameMods};
 
 pub mod board;
+pub mod breaks;
 pub mod calls;
 pub mod command;
 pub mod encode;

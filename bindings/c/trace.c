@@ -127,26 +127,44 @@ static int same_estimates(pjp_estimates a, pjp_estimates b) {
            bits(a.effective) == bits(b.effective) && a.has_score_based == b.has_score_based;
 }
 
-/* A refusal has no value. */
-static void print_refused(uint8_t status, size_t offset, const pjp_attributes *a, const pjp_estimates *e) {
-    pjp_breaks_answer none;
-    memset(&none, 0, sizeof none);
-    hold(!a || same_attributes(a, &none.attributes), "a refusal has no attributes");
-    hold(!e || same_estimates(*e, none.estimates), "a refusal has no estimates");
+static void print_refused(uint8_t status, size_t offset) {
     printf("refused %d at %zu\n", status, offset);
+}
+
+/* A refusal has no value. */
+static void hold_no_attributes(const pjp_attributes *a) {
+    static pjp_attributes none;
+    hold(same_attributes(a, &none), "a refusal has no attributes");
+}
+
+static void hold_play(const pjp_play_answer *answer) {
+    static pjp_estimates none;
+    if (answer->status == PJP_GOOD)
+        return;
+    hold_no_attributes(&answer->attributes);
+    hold(same_estimates(answer->estimates, none), "a refusal has no estimates");
 }
 
 static void print_play(unsigned index, const pjp_play_answer *answer) {
     if (answer->status != PJP_GOOD) {
-        print_refused(answer->status, answer->offset, &answer->attributes, &answer->estimates);
+        print_refused(answer->status, answer->offset);
         return;
     }
     print_attributes(index, &answer->attributes);
     print_estimates(index, &answer->estimates);
 }
 
+/* What a call with factors answers but for its breaks. */
+static pjp_play_answer play_answer(const pjp_breaks_answer *with) {
+    pjp_play_answer answer = {with->status, with->offset, with->attributes, with->estimates};
+    return answer;
+}
+
 /* A call with factors gives what the call without them gives, then 14, else breaks behind it. */
-static void hold_alike(const pjp_breaks_answer *with, const pjp_play_answer *without) {
+static void hold_breaks(const pjp_breaks_answer *with, const pjp_play_answer *without) {
+    pjp_play_answer answer = play_answer(with);
+    hold_play(without);
+    hold_play(&answer);
     if (with->status == PJP_FACTOR)
         hold(without->status == PJP_GOOD && with->offset == 0, "factors are checked last, and point at no record");
     else
@@ -158,11 +176,11 @@ static void hold_alike(const pjp_breaks_answer *with, const pjp_play_answer *wit
         hold(bits(with->breaks.aim) == 0 && bits(with->breaks.speed) == 0, "a refusal has no breaks");
 }
 
-static void print_play_and_breaks(unsigned index, const pjp_breaks_answer *answer) {
-    pjp_play_answer play = {answer->status, answer->offset, answer->attributes, answer->estimates};
-    print_play(index, &play);
-    if (answer->status == PJP_GOOD)
-        print_breaks(index, &answer->breaks);
+static void print_play_and_breaks(unsigned index, const pjp_breaks_answer *with) {
+    pjp_play_answer answer = play_answer(with);
+    print_play(index, &answer);
+    if (with->status == PJP_GOOD)
+        print_breaks(index, &with->breaks);
 }
 
 /* ---- files: the listing, then the attributes of each play. The plays are a file's last records. */
@@ -174,7 +192,8 @@ static void trace_file(void) {
     if (map.status != PJP_GOOD) {
         hold(map.status == PJP_PLAY_EXCEEDS || map.status == PJP_PLAY_COMBO || (info.status == map.status && info.offset == map.offset),
              "a file is refused alike by read_map and score_map");
-        print_refused(map.status, map.offset, &map.attributes, NULL);
+        hold_no_attributes(&map.attributes);
+        print_refused(map.status, map.offset);
         return;
     }
     hold(info.status == PJP_GOOD && info.objects == map.attributes.object_count, "read_map counts the objects");
@@ -226,7 +245,7 @@ static void trace_breaks(void) {
         size_t length = (size_t)(frame + frame_length - file);
         pjp_breaks_answer with = pjp_score_play_breaks(file, length, play, factors);
         pjp_play_answer without = pjp_score_play(file, length, play);
-        hold_alike(&with, &without);
+        hold_breaks(&with, &without);
         print_play_and_breaks(i, &with);
     }
 }
@@ -253,7 +272,7 @@ static void build(const uint8_t *at) {
     calls = 0;
     answer = pjp_build(at, (size_t)(frame + frame_length - at), board, words, starts, numbers);
     if (answer.status != PJP_GOOD)
-        print_refused(answer.status, answer.offset, NULL, NULL);
+        print_refused(answer.status, answer.offset);
     else
         printf("built\n");
 }
@@ -265,7 +284,7 @@ static void edit(const uint8_t *at) {
     take(&at, &place, 4);
     answer = pjp_edit(board, words, starts, numbers, count, place, at, (size_t)(frame + frame_length - at));
     if (answer.status != PJP_GOOD)
-        print_refused(answer.status, answer.offset, NULL, NULL);
+        print_refused(answer.status, answer.offset);
     else
         printf("done\n");
 }
@@ -305,9 +324,10 @@ static void read_board(const uint8_t *at, int is_own, int has_factors, unsigned 
         factors = take_factors(&at);
     take_read(at, is_own, &r);
     answer = pjp_read(board, words, starts, numbers, r.count, r.settings, r.breaks, r.times, r.play);
+    hold_play(&answer);
     if (has_factors) {
         pjp_breaks_answer with = pjp_read_breaks(board, words, starts, numbers, r.count, r.settings, r.breaks, r.times, r.play, factors);
-        hold_alike(&with, &answer);
+        hold_breaks(&with, &answer);
         if (is_own)
             print_play_and_breaks(index, &with);
     } else if (is_own) {

@@ -105,6 +105,8 @@ fn the_original_breaks_as_the_papers_say() {
             let breaks = a.slider_breaks(&play, &estimates, *factors);
             let due = [factors.aim, factors.speed]
                 .map(|factor| plain_breaks(&play, a.max_combo, estimates.effective, factor));
+            let range = 0.0..=f64::from(play.n100);
+            assert!(range.contains(&breaks.aim) && range.contains(&breaks.speed));
             let bits = [breaks.aim, breaks.speed].map(f64::to_bits);
             assert_eq!(bits, due.map(f64::to_bits), "{play:?}, {factors:?}");
             compared += 1;

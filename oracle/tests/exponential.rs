@@ -43,8 +43,10 @@ fn it_has_these_edges() {
 
 #[test]
 fn it_is_eight_terms_and_ten_squarings() {
-    for v in [1.0, -3.75, 4.95, -10.05, 123.456, -700.0] {
-        let y: f64 = v / 1024.0;
+    let mut r = Random::new(12, 0);
+    let drawn = (0..10_000).map(|_| 1_400.0 * r.unit() - 700.0);
+    for v in [1.0, -3.75, 4.95, -10.05, -700.0].into_iter().chain(drawn) {
+        let y = v / 1024.0;
         let h = 1.0 + (y / 8.0) * 1.0;
         let h = 1.0 + (y / 7.0) * h;
         let h = 1.0 + (y / 6.0) * h;

@@ -11,7 +11,7 @@ use oracle::{
     map::{MapFile, Origin, Play},
     reader::read_library,
     stand_in::exp,
-    values::Original,
+    values::{Attributes, Original},
 };
 
 #[test]
@@ -193,6 +193,28 @@ fn no_flag_zeroes_the_breaks() {
         );
         assert!(text.ends_with(due), "flag {bit}: {text}");
     }
+}
+
+/// Of a board that no build made.
+#[test]
+fn without_combo_breaks_are_not_a_number() {
+    let (map, play) = three();
+    let a = Attributes {
+        max_combo: 0,
+        ..Original::new(&map).attributes(3)
+    };
+    let play = Play {
+        n100: 1,
+        misses: 2,
+        max_combo: 0,
+        ..play
+    };
+    let factors = Factors {
+        aim: 1.0,
+        speed: -0.0,
+    };
+    let breaks = a.slider_breaks(&play, &a.estimates(&play), factors);
+    assert!(breaks.aim.is_nan() && breaks.speed.is_nan());
 }
 
 #[test]

@@ -314,6 +314,31 @@ fn factors_are_checked_last() {
     }
 }
 
+/// Two circles on a board whose combo no build made: 0 of 0 is not a number, as in the Rust's formula.
+#[test]
+fn breaks_without_combo() {
+    let rows = rows();
+    let row = rows.iter().find(|row| row.name == "read-factors-k-zero");
+    let Kind::Read { memory, play, .. } = &row.unwrap().kind else {
+        unreachable!("a read");
+    };
+    let lent = Memories::lent(&row.unwrap().file, memory);
+    let breaks = |play: Play| {
+        let factors = Factors {
+            aim: 1.0,
+            speed: -0.0,
+        };
+        let answer = lent.read_breaks(2, Settings::default(), &[], play, factors);
+        assert_eq!(answer.status, 0);
+        [answer.breaks.aim, answer.breaks.speed]
+    };
+    let play = play_of(play);
+    assert!(breaks(play).iter().all(|breaks| breaks.is_nan()));
+    // Without the miss the effective count is 0, and the quotient is not asked for.
+    let no_miss = Play { misses: 0, ..play };
+    assert_eq!(breaks(no_miss).map(f64::to_bits), [0, 0]);
+}
+
 /// A play whose fields no type of Rust's holds is out of range, behind all that is wrong with the file.
 #[test]
 fn raw_plays_out_of_range() {

@@ -110,7 +110,7 @@ static void print_estimates(unsigned index, const pjp_estimates *e) {
     printf("\n");
 }
 
-static void print_breaks(unsigned index, const pjp_breaks *b) {
+static void print_breaks(unsigned index, const pjp_slider_breaks *b) {
     printf("breaks %u", index);
     print_float(b->aim);
     print_float(b->speed);
@@ -173,14 +173,14 @@ static void hold_breaks(const pjp_breaks_answer *with, const pjp_play_answer *wi
         hold(same_attributes(&with->attributes, &without->attributes) && same_estimates(with->estimates, without->estimates),
              "factors change no other value");
     else
-        hold(bits(with->breaks.aim) == 0 && bits(with->breaks.speed) == 0, "a refusal has no breaks");
+        hold(bits(with->slider_breaks.aim) == 0 && bits(with->slider_breaks.speed) == 0, "a refusal has no breaks");
 }
 
 static void print_play_and_breaks(unsigned index, const pjp_breaks_answer *with) {
     pjp_play_answer answer = play_answer(with);
     print_play(index, &answer);
     if (with->status == PJP_GOOD)
-        print_breaks(index, &with->breaks);
+        print_breaks(index, &with->slider_breaks);
 }
 
 /* ---- files: the listing, then the attributes of each play. The plays are a file's last records. */
@@ -224,8 +224,8 @@ static pjp_play take_play(const uint8_t **at) {
     return play;
 }
 
-static pjp_factors take_factors(const uint8_t **at) {
-    pjp_factors factors;
+static pjp_slider_factors take_factors(const uint8_t **at) {
+    pjp_slider_factors factors;
     take(at, &factors.aim, 8);
     take(at, &factors.speed, 8);
     return factors;
@@ -240,7 +240,7 @@ static void trace_breaks(void) {
     hold(count <= (size_t)(frame + frame_length - at) / GIVEN, "a frame has all its plays");
     file = at + count * GIVEN;
     for (i = 0; i < count; i++) {
-        pjp_factors factors = take_factors(&at);
+        pjp_slider_factors factors = take_factors(&at);
         pjp_play play = take_play(&at);
         size_t length = (size_t)(frame + frame_length - file);
         pjp_breaks_answer with = pjp_score_play_breaks(file, length, play, factors);
@@ -318,7 +318,7 @@ static void take_read(const uint8_t *at, int is_own, read_arguments *r) {
 
 static void read_board(const uint8_t *at, int is_own, int has_factors, unsigned index) {
     static read_arguments r;
-    pjp_factors factors = {0, 0};
+    pjp_slider_factors factors = {0, 0};
     pjp_play_answer answer;
     if (has_factors)
         factors = take_factors(&at);

@@ -6,8 +6,8 @@ use oracle_tests::refused;
 use popejoanplum::{
     Error, listing, score_map,
     sys::{
-        self, Attributes, Breaks, BreaksAnswer, Estimates, Factors, Play, PlayAnswer, Settings,
-        Status,
+        self, Attributes, BreaksAnswer, Estimates, Play, PlayAnswer, Settings, SliderBreaks,
+        SliderFactors, Status,
     },
 };
 
@@ -76,7 +76,7 @@ impl Memories {
         settings: Settings,
         breaks: &[f64],
         play: Play,
-        factors: Factors,
+        factors: SliderFactors,
     ) -> BreaksAnswer {
         // SAFETY: as above.
         unsafe {
@@ -161,9 +161,9 @@ fn play_of(body: &[u8; PLAY_BODY]) -> Play {
     }
 }
 
-fn factors_of(bits: &[u64; 2]) -> Factors {
+fn factors_of(bits: &[u64; 2]) -> SliderFactors {
     let [aim, speed] = bits.map(f64::from_bits);
-    Factors { aim, speed }
+    SliderFactors { aim, speed }
 }
 
 fn number_of<T>(answer: Result<T, Error>) -> (u8, usize) {
@@ -242,7 +242,7 @@ fn answer(row: &Row, lent: &mut Memories) -> (u8, usize) {
     (status, offset)
 }
 
-fn score_breaks(file: &[u8], play: Play, factors: Factors) -> BreaksAnswer {
+fn score_breaks(file: &[u8], play: Play, factors: SliderFactors) -> BreaksAnswer {
     // SAFETY: as above.
     unsafe { sys::pjp_score_play_breaks(file.as_ptr(), file.len(), play, factors) }
 }
@@ -256,7 +256,7 @@ fn number_without_factors(answer: PlayAnswer) -> (u8, usize) {
 }
 
 fn number_with_factors(answer: BreaksAnswer) -> (u8, usize) {
-    let Breaks { aim, speed } = answer.breaks;
+    let SliderBreaks { aim, speed } = answer.slider_breaks;
     let is_zero = aim.to_bits() == 0 && speed.to_bits() == 0;
     assert!(answer.status == 0 || is_zero, "{answer:?}");
     number_without_factors(PlayAnswer {
@@ -324,13 +324,13 @@ fn breaks_without_combo() {
     };
     let lent = Memories::lent(&row.unwrap().file, memory);
     let breaks = |play: Play| {
-        let factors = Factors {
+        let factors = SliderFactors {
             aim: 1.0,
             speed: -0.0,
         };
         let answer = lent.read_breaks(2, Settings::default(), &[], play, factors);
         assert_eq!(answer.status, 0);
-        [answer.breaks.aim, answer.breaks.speed]
+        [answer.slider_breaks.aim, answer.slider_breaks.speed]
     };
     let play = play_of(play);
     assert!(breaks(play).iter().all(|breaks| breaks.is_nan()));

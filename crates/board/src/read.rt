@@ -23,9 +23,6 @@ use ruleset::score_multiplier::drain_len;
 use ruleset::score_multiplier::score_multiplier;
 use simulator::attributes::ScoreAttributes;
 use simulator::attributes::score_attributes;
-use slider_breaks::GivenBreaks;
-use slider_breaks::calculator::SliderFactors;
-use slider_breaks::with_breaks;
 use tree::Size;
 ghost use mathlib.Core.Path.{_≡_};
 ghost use mathlib.Core.Bool.{true, false};
@@ -37,7 +34,6 @@ ghost use Rattle.entries.specs.Entry.{inLimits};
 ghost use Rattle.entries.specs.Scores.{unsound};
 ghost use Rattle.ruleset.specs.Stars.{SettingsIn};
 ghost use Rattle.play_score.specs.PlayRules.{givenAnswer};
-ghost use Rattle.slider_breaks.specs.Given.{withBreaks};
 ghost use Rattle.board.specs.Place.{Holds};
 ghost use Rattle.board.specs.Read.{settingsBad, timesBad, argumentsBad, drainFrom, attributesFrom, scoreFrom, readOf};
 
@@ -170,24 +166,4 @@ pub fn read(
             read_in(board, starts, size, count, settings, breaks, play)
         }
     }
-}
-
-// A play on the first objects of a board for `count` objects, with its slider breaks.
-pub fn read_breaks(
-    board: &[u64],
-    starts: &[f64],
-    count: usize,
-    settings: Settings,
-    breaks: &[f64],
-    play: Play,
-    factors: SliderFactors,
-) -> GivenBreaks
-    ensures { λ r. ⌜ r ≡ withBreaks play factors (givenAnswer (readOf (now (board .entry)) (now (starts .entry)) count settings (now (breaks .entry)) play)) ⌝ }
-    ensures { λ _. ⌜ (now (board .exit) ≡ now (board .entry)) × (now (starts .exit) ≡ now (starts .entry)) × (now (breaks .exit) ≡ now (breaks .entry)) ⌝ }
-{
-    with_breaks(
-        play,
-        factors,
-        read(board, starts, count, settings, breaks, play),
-    )
 }

@@ -30,7 +30,7 @@ use Rattle.play_score.specs.declared.PlayScore.{PlayScore}
 use Rattle.play_score.specs.declared.GivenPlay.the-variants as given
 use Rattle.slider_breaks.specs.Given.{withBreaks}
 use Rattle.slider_breaks.specs.declared.calculator.SliderFactors.{SliderFactors}
-use Rattle.slider_breaks.specs.declared.GivenBreaks.the-variants as breaks
+use Rattle.slider_breaks.specs.Given as breaks
 use Rattle.slider_breaks.proofs.Laws.{other-number}
 use Rattle.scoring.specs.Scores.{Outcome, Scores, scoresOf}
 use Rattle.scoring.proofs.Rules.{Ruled, fine, rule, ruled-bind, ruled-when, ruled-object, ruled-score-of, two, three, eight}

@@ -32,10 +32,9 @@ use Rattle.play_score.specs.PlayRules.{modsBad, hitsExceed, exceeds, overCombo,
 use Rattle.play_score.specs.declared.PlayScore.{PlayScore}
 use Rattle.play_score.specs.declared.GivenPlay.the-variants as given
 use Rattle.slider_breaks.specs.SliderBreaks.{estimatedBreaks}
-use Rattle.slider_breaks.specs.Given.{factorsBad, breaksScore, withBreaks}
+use Rattle.slider_breaks.specs.Given.{BreaksScore, factorsBad, breaksScore, withBreaks}
 use Rattle.slider_breaks.specs.declared.calculator.SliderFactors.{SliderFactors}
-use Rattle.slider_breaks.specs.declared.BreaksScore.{BreaksScore}
-use Rattle.slider_breaks.specs.declared.GivenBreaks.the-variants as breaks
+use Rattle.slider_breaks.specs.Given as breaks
 use Rattle.slider_breaks.proofs.Laws.{Values, values-of}
 use Rattle.slider_breaks.proofs.Range.{BreaksInRange, breaks-range}
 use Rattle.scoring.specs.Scores.{Outcome, refusal, values, Scores, scoresOf, givenPlayOf}
@@ -101,7 +100,7 @@ module _ (m : Map) (w : MapWithin m) (p : Play) where
       let gained = all-gain (multiplierAt m (p .«passed_objects»)) fresh (take (p .«passed_objects») (m .objects)) in
       omega (arith, counted, gained)
 
-  scored-range : (f : SliderFactors) (s : PlayScore) → factorsBad f ≡ false → givenScore p a ≡ good s → BreaksInRange (breaksScore p f s .«slider_breaks») (p .hitresults .n100)
+  scored-range : (f : SliderFactors) (s : PlayScore) → factorsBad f ≡ false → givenScore p a ≡ good s → BreaksInRange (breaksScore p f s .slider-breaks) (p .hitresults .n100)
   scored-range f s good-factors e =
       let fit = fits-of p a s e in
       let judged = fit .judged in
@@ -109,27 +108,27 @@ module _ (m : Map) (w : MapWithin m) (p : Play) where
       let no-less-combo = no-less in
       let most = combo-most m (p .«passed_objects») w in
       let range = effective-of-counts p (a .difficulty) (omega (arith, judged, few-objects)) in
-      subst (λ (x : PlayScore). BreaksInRange (breaksScore p f x .«slider_breaks») (p .hitresults .n100)) (sym (fit .is))
-      (breaks-range p (a .difficulty) (estimatesOf p (a .difficulty) .effective) f (omega (arith, judged, few-objects)) (fit .combo)
+      subst (λ (x : PlayScore). BreaksInRange (breaksScore p f x .slider-breaks) (p .hitresults .n100)) (sym (fit .is))
+      (breaks-range p (a .difficulty .«max_combo») (estimatesOf p (a .difficulty) .effective) f (omega (arith, judged, few-objects)) (fit .combo)
       (λ (some : 1 ≤ p .hitresults .n100). omega (arith, some, judged, no-less-combo)) (omega (arith, most)) (range .0) (range .1) good-factors)
 
 -- of a play that is given with factors beside a file
 pub breaks-of-a-play : (s : List ℕ) (p : Play) (f : SliderFactors) (b : BreaksScore) → withBreaks p f (givenPlayOf p (scoresOf (fileOf s))) ≡ breaks.Score b
-    → BreaksInRange (b .«slider_breaks») (p .hitresults .n100)
+    → BreaksInRange (b .slider-breaks) (p .hitresults .n100)
 breaks-of-a-play s p f b e = go (scoresOf (fileOf s)) refl (v .score)
   where
     v : Values p f (givenPlayOf p (scoresOf (fileOf s))) b
     v = values-of p f (givenPlayOf p (scoresOf (fileOf s))) b e
 
     in-range : (sc : Scores) → scoresOf (fileOf s) ≡ values sc → (x : Checked PlayScore) → givenScore p (scoreAttributesAt (sc .map) (p .«passed_objects»)) ≡ x
-        → givenAnswer x ≡ given.Score (b .score) → BreaksInRange (b .«slider_breaks») (p .hitresults .n100)
+        → givenAnswer x ≡ given.Score (b .score) → BreaksInRange (b .slider-breaks) (p .hitresults .n100)
     in-range sc q (refused n) h k = never (cc)
     in-range sc q (good t) h k =
         let same : t ≡ b .score = cc in
-        subst (λ (z : BreaksScore). BreaksInRange (z .«slider_breaks») (p .hitresults .n100)) (sym (v .scored))
-        (subst (λ (z : PlayScore). BreaksInRange (breaksScore p f z .«slider_breaks») (p .hitresults .n100)) same
+        subst (λ (z : BreaksScore). BreaksInRange (z .slider-breaks) (p .hitresults .n100)) (sym (v .scored))
+        (subst (λ (z : PlayScore). BreaksInRange (breaksScore p f z .slider-breaks) (p .hitresults .n100)) same
         (scored-range (sc .map) (values-within s sc q) p f t (v .factors) h))
 
-    go : (x : Outcome Scores) → scoresOf (fileOf s) ≡ x → givenPlayOf p x ≡ given.Score (b .score) → BreaksInRange (b .«slider_breaks») (p .hitresults .n100)
+    go : (x : Outcome Scores) → scoresOf (fileOf s) ≡ x → givenPlayOf p x ≡ given.Score (b .score) → BreaksInRange (b .slider-breaks) (p .hitresults .n100)
     go (refusal n at) q k = never (cc)
     go (values sc) q k = in-range sc q _ refl k

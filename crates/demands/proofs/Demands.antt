@@ -30,7 +30,7 @@ use Rattle.play_score.specs.declared.GivenPlay.the-variants as given
 use Rattle.play_score.specs.PlayRules.{givenAnswer}
 use Rattle.slider_breaks.specs.Given.{withBreaks}
 use Rattle.slider_breaks.specs.declared.calculator.SliderFactors.{SliderFactors}
-use Rattle.slider_breaks.specs.declared.GivenBreaks.the-variants as breaks
+use Rattle.slider_breaks.specs.Given as breaks
 use Rattle.scoring.specs.Scores.{refusal, values, Scores, scoresOf, givenPlayOf}
 use Rattle.scoring.proofs.Answers.{no-number}
 use Rattle.scoring.proofs.Rules.{IsRule, refusal-rule}
@@ -45,7 +45,8 @@ use Rattle.listing.specs.Listing.{inputText, listedOf}
 use Rattle.listing.specs.declared.Listed.the-variants as listed
 use Rattle.listing.proofs.Fits.{listing-told}
 use Rattle.demands.specs.Calls.{isAccepted, AcceptedMap, changed, timesOf, mapIn, lentFor, lentBy, Call, edit, read, read-breaks, edits, reads, reads-breaks, answer, mapAfterAll, lentAfterAll, MayStand, Claim}
-use Rattle.demands.proofs.Refusals.{Numbered, edit-numbered, read-numbered, BreaksNumbered, play-breaks-numbered, read-breaks-numbered, effective-of-a-play}
+use Rattle.board.proofs.Numbers.{Numbered, read-numbered}
+use Rattle.demands.proofs.Refusals.{edit-numbered, BreaksNumbered, play-breaks-numbered, read-breaks-numbered, effective-of-a-play}
 use Rattle.demands.proofs.Files.{scoredPlays, plays-are-scored, RulesKept, only-when-kept, when-kept}
 use Rattle.demands.proofs.Exactness.{combo-points-exact, spinner-score-exact}
 use Rattle.demands.proofs.Maps.{within-scored, accepted-is-within, within-is-accepted, accepted-gets-none}

@@ -42,7 +42,7 @@ use Rattle.slider_breaks.specs.Difficulty.{reverseLerpOf, smoothstepOf, logisti
 use Rattle.slider_breaks.specs.SliderBreaks.{adjustedOf, sliderBreaksOf, estimatedBreaks}
 use Rattle.slider_breaks.specs.Given.{isFactor, factorsBad}
 use Rattle.slider_breaks.specs.declared.calculator.SliderFactors.{SliderFactors}
-use Rattle.slider_breaks.specs.declared.GivenBreaks.the-variants as given·breaks
+use Rattle.slider_breaks.specs.Given as given·breaks
 use Rattle.entries.specs.Entry.{total, entryOf, joined, inLimits}
 use Rattle.entries.specs.Words.{entryAt, putEntry, wordsFrom}
 use Rattle.tree.specs.Size.{levelsFrom, levelsOf}
@@ -176,7 +176,7 @@ breaksIn (edits w) = []
 breaksIn (reads a) = []
 breaksIn (reads-breaks (given·breaks.Refused n at)) = n ∷ []
 breaksIn (reads-breaks (given·breaks.Score s)) =
-    s .score .attributes .legacy .«bonus_score» .0 ∷ toBits binary64 (s .«slider_breaks» .aim) ∷ toBits binary64 (s .«slider_breaks» .speed) ∷ []
+    s .score .attributes .legacy .«bonus_score» .0 ∷ toBits binary64 (s .slider-breaks .aim) ∷ toBits binary64 (s .slider-breaks .speed) ∷ []
 
 record Told : Type 0 where
   -- the board and the start table of the map with the spinner, and what lay beyond them

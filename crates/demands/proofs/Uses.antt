@@ -30,10 +30,9 @@ use Rattle.miss_calc.specs.Counts.{totalHits}
 use Rattle.estimates.specs.Effective.{estimatesOf}
 use Rattle.play_score.specs.declared.GivenPlay.the-variants as given
 use Rattle.play_score.specs.PlayRules.{givenAnswer}
-use Rattle.slider_breaks.specs.Given.{withBreaks}
+use Rattle.slider_breaks.specs.Given.{GivenBreaks, withBreaks}
 use Rattle.slider_breaks.specs.declared.calculator.SliderFactors.{SliderFactors}
-use Rattle.slider_breaks.specs.declared.GivenBreaks.{GivenBreaks}
-use Rattle.slider_breaks.specs.declared.GivenBreaks.the-variants as breaks
+use Rattle.slider_breaks.specs.Given as breaks
 use Rattle.scoring.specs.Scores.{refusal, values, Scores, scoresOf, givenPlayOf}
 use Rattle.entries.specs.Entry.{placeWords}
 use Rattle.entries.specs.Words.{entryAt}
@@ -48,7 +47,8 @@ use Rattle.listing.specs.Listing.{inputText, listedOf}
 use Rattle.listing.specs.declared.Listed.{Listed}
 use Rattle.listing.specs.declared.Listed.the-variants as listed
 use Rattle.demands.specs.Calls.{isAccepted, AcceptedMap, changed, timesOf, mapIn, lentFor, lentBy, Call, edit, read, read-breaks, edits, reads, reads-breaks, answer, lentAfter, mapAfterAll, lentAfterAll, MayStand}
-use Rattle.demands.proofs.Refusals.{Numbered, value, number, BreaksNumbered, scored, numbered}
+use Rattle.board.proofs.Numbers.{Numbered, value, number}
+use Rattle.demands.proofs.Refusals.{BreaksNumbered, scored, numbered}
 use Rattle.demands.proofs.Files.{scoredPlays}
 use Rattle.demands.proofs.Boards.{Leads}
 use Rattle.demands.proofs.Demands.{every-listing-fits, refused-by-a-rule, refused-edit-by-a-rule, refused-read-by-a-rule, refused-play-breaks-by-a-rule, refused-read-breaks-by-a-rule, accepted-keeps-the-rules, keeping-the-rules-is-accepted, no-number-only-when-the-rules-are-kept, no-number-when-the-rules-are-kept, every-combo-product-is-exact, values-are-the-definition's, effective-misses-in-range, every-spinner-sum-is-exact, accepted-maps-are-within, accepted-map-gets-no-number, every-accepted-map-is-built, maps-within-are-accepted, left-by-every-list, changed-map-accepted, one-edit-leads, edit-touches-only, never-13-edit, never-13-read, never-13-read-breaks}

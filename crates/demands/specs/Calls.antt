@@ -23,9 +23,8 @@ use Rattle.scoring.specs.Scores.{Outcome, refusal, values, Scores, scoresOf, gi
 use Rattle.play_score.specs.declared.PlayScore.{PlayScore}
 use Rattle.play_score.specs.declared.GivenPlay.{GivenPlay}
 use Rattle.play_score.specs.declared.GivenPlay.the-variants as given
-use Rattle.slider_breaks.specs.Given.{withBreaks}
+use Rattle.slider_breaks.specs.Given.{GivenBreaks, withBreaks}
 use Rattle.slider_breaks.specs.declared.calculator.SliderFactors.{SliderFactors}
-use Rattle.slider_breaks.specs.declared.GivenBreaks.{GivenBreaks}
 use Rattle.tree.specs.Size.{capOf}
 use Rattle.tree.specs.Board.{boardOf, startsOf}
 use Rattle.board.specs.Place.{writtenLeft}

@@ -20,7 +20,7 @@ use Rattle.play_score.specs.PlayRules.{modsBad, givenAnswer, givenScore}
 use Rattle.play_score.specs.declared.PlayScore.{PlayScore}
 use Rattle.slider_breaks.specs.Given.{withBreaks}
 use Rattle.slider_breaks.specs.declared.calculator.SliderFactors.{SliderFactors}
-use Rattle.slider_breaks.specs.declared.GivenBreaks.the-variants as breaks
+use Rattle.slider_breaks.specs.Given as breaks
 use Rattle.board.specs.Place.{roomFor}
 use Rattle.board.specs.Read.{argumentsBad, readOf}
 use Rattle.host.specs.Play.{playFrom, playIn}

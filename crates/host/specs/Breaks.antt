@@ -1,10 +1,13 @@
 -- Factors as a host gives them, and the values of a play with its slider breaks as a host gets them.
+use lib.Dec.{eqb}
 use lib.Ieee.{Float}
-use Rattle.slider_breaks.specs.SliderBreaks.{noBreaks}
+use Rattle.rules.specs.Refusals.{pick, FACTOR}
+use Rattle.play_state.specs.declared.Play.{Play}
+use Rattle.slider_breaks.specs.SliderBreaks.{noBreaks, estimatedBreaks}
+use Rattle.slider_breaks.specs.Given.{GivenBreaks, factorsBad}
+use Rattle.slider_breaks.specs.Given as given·breaks
 use Rattle.slider_breaks.specs.declared.calculator.SliderFactors.{SliderFactors}
 use Rattle.slider_breaks.specs.declared.calculator.SliderBreaks.{SliderBreaks}
-use Rattle.slider_breaks.specs.declared.GivenBreaks.{GivenBreaks}
-use Rattle.slider_breaks.specs.declared.GivenBreaks.the-variants as given·breaks
 use Rattle.host.specs.Answer.{playAnswerIn, playAnswerRefused}
 use Rattle.host.specs.declared.answer.PlayAnswer.{PlayAnswer}
 use Rattle.host.specs.declared.breaks.HostFactors.{HostFactors}
@@ -26,5 +29,14 @@ answerWith a b = record {
 
 -- of a play that is given with factors beside a file or a board; a refusal has none of the values
 abbrev pub breaksAnswerOf : GivenBreaks → BreaksAnswer
-breaksAnswerOf (given·breaks.Score s) = answerWith (playAnswerIn (s .score)) (s .«slider_breaks»)
+breaksAnswerOf (given·breaks.Score s) = answerWith (playAnswerIn (s .score)) (s .slider-breaks)
 breaksAnswerOf (given·breaks.Refused number offset) = answerWith (playAnswerRefused number offset) noBreaks
+
+-- the same from what a host gets without factors: no refusal has status 0 (proofs/BreaksBehind)
+unfoldable pub behindAnswer : Play → SliderFactors → PlayAnswer → BreaksAnswer
+behindAnswer p f a =
+    pick (eqb (a .status) 0)
+    (pick (factorsBad f)
+    (answerWith (playAnswerRefused FACTOR 0) noBreaks)
+    (answerWith a (estimatedBreaks p (a .attributes .«max_combo») (a .estimates .effective) f)))
+    (answerWith a noBreaks)

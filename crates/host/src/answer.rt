@@ -159,7 +159,7 @@ pub fn map_answer_of(score: MapScore) -> MapAnswer
     }
 }
 
-pub fn play_answer_in(score: PlayScore) -> PlayAnswer
+fn play_answer_in(score: PlayScore) -> PlayAnswer
     ensures { λ r. ⌜ r ≡ playAnswerIn score ⌝ }
 {
     let attributes = score.attributes;

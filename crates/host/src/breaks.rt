@@ -2,13 +2,15 @@
 use crate::answer::HostAttributes;
 use crate::answer::HostEstimates;
 use crate::answer::PlayAnswer;
-use crate::answer::play_answer_in;
 use crate::answer::play_answer_refused;
-use slider_breaks::GivenBreaks;
+use play_state::Play;
+use rules::refusal;
 use slider_breaks::calculator::SliderBreaks;
 use slider_breaks::calculator::SliderFactors;
+use slider_breaks::calculator::slider_breaks;
+use slider_breaks::has_bad_factors;
 ghost use mathlib.Core.Path.{_≡_};
-ghost use Rattle.host.specs.Breaks.{factorsIn, answerWith, breaksAnswerOf};
+ghost use Rattle.host.specs.Breaks.{factorsIn, answerWith, behindAnswer};
 
 #[repr(C)]
 pub struct HostFactors {
@@ -58,18 +60,19 @@ fn answer_with(answer: PlayAnswer, b: SliderBreaks) -> BreaksAnswer
     }
 }
 
-// Of a play that is given with factors beside a file or a board.
-pub fn breaks_answer_of(play: GivenBreaks) -> BreaksAnswer
-    ensures { λ r. ⌜ r ≡ breaksAnswerOf play ⌝ }
+// What a call with factors answers, from the answer of the same call without them: its refusal, then 14, then the values. It starts from that answer,
+// and not from the engine's, so that the engine's call has one caller and is compiled into it.
+pub fn breaks_behind(play: Play, factors: SliderFactors, answer: PlayAnswer) -> BreaksAnswer
+    ensures { λ r. ⌜ r ≡ behindAnswer play factors answer ⌝ }
 {
-    match play {
-        GivenBreaks::Score(scored) => {
-            let score = scored.score;
-            let slider_breaks = scored.slider_breaks;
-            answer_with(play_answer_in(score), slider_breaks)
-        }
-        GivenBreaks::Refused { number, offset } => {
-            answer_with(play_answer_refused(number, offset), SliderBreaks::none())
-        }
+    if answer.status != 0 {
+        return answer_with(answer, SliderBreaks::none());
     }
+    if has_bad_factors(factors) {
+        let refused = play_answer_refused(refusal::FACTOR, 0);
+        return answer_with(refused, SliderBreaks::none());
+    }
+    let highest = answer.attributes.max_combo;
+    let effective = answer.estimates.effective;
+    answer_with(answer, slider_breaks(play, highest, effective, factors))
 }

@@ -3,7 +3,6 @@
 
 use board::edit::edit;
 use board::read::read;
-use board::read::read_breaks;
 use board_build::build;
 use entries::entry::Entry;
 use host::answer::MapAnswer;
@@ -13,7 +12,7 @@ use host::answer::listed_answer_of;
 use host::answer::map_answer_of;
 use host::breaks::BreaksAnswer;
 use host::breaks::HostFactors;
-use host::breaks::breaks_answer_of;
+use host::breaks::breaks_behind;
 use host::breaks::factors_in;
 use host::map::HostSettings;
 use host::map::MapInfo;
@@ -28,7 +27,6 @@ use records::hit_object::HitObject;
 use scoring::score::score_map;
 use scoring::score::score_play;
 use scoring::score::score_play_at;
-use scoring::score::score_play_breaks;
 use tree::size_of;
 ghost use mathlib.Core.Path.{_≡_};
 ghost use Rattle.map_file.specs.File.{fileOf};
@@ -90,7 +88,8 @@ pub extern "C" fn pjp_score_play_breaks(
 ) -> BreaksAnswer
     ensures { λ r. ⌜ r ≡ breaksAnswerOf (withBreaks (playIn play) (factorsIn factors) (givenPlayOf (playIn play) (scoresOf (fileOf (now (file .entry)))))) ⌝ }
 {
-    breaks_answer_of(score_play_breaks(file, play_in(play), factors_in(factors)))
+    let answer = pjp_score_play(file, play);
+    breaks_behind(play_in(play), factors_in(factors), answer)
 }
 
 // The play at an index of the file.
@@ -160,8 +159,6 @@ pub extern "C" fn pjp_read_breaks(
     ensures { λ r. ⌜ r ≡ breaksAnswerOf (withBreaks (playIn play) (factorsIn factors) (givenAnswer (readOf (now (board .entry)) (now (starts .entry)) count (settingsIn settings) (now (breaks .entry)) (playIn play)))) ⌝ }
     ensures { λ _. ⌜ (now (board .exit) ≡ now (board .entry)) × (now (starts .exit) ≡ now (starts .entry)) × (now (breaks .exit) ≡ now (breaks .entry)) ⌝ }
 {
-    let map = settings_in(settings);
-    let given = play_in(play);
-    let by = factors_in(factors);
-    breaks_answer_of(read_breaks(board, starts, count, map, breaks, given, by))
+    let answer = pjp_read(board, starts, count, settings, breaks, play);
+    breaks_behind(play_in(play), factors_in(factors), answer)
 }

@@ -7,12 +7,8 @@ use play_score::PlayScore;
 use play_score::score_given;
 use play_state::Play;
 use simulator::attributes::ScoreAttributes;
-use slider_breaks::GivenBreaks;
-use slider_breaks::calculator::SliderFactors;
-use slider_breaks::with_breaks;
 ghost use mathlib.Core.Path.{_≡_};
 ghost use Rattle.map_file.specs.File.{fileOf};
-ghost use Rattle.slider_breaks.specs.Given.{withBreaks};
 ghost use Rattle.scoring.specs.Scores.{scoresOf, mapScoreOf, givenPlayOf, listedPlayOf};
 
 pub enum MapScore {
@@ -44,13 +40,6 @@ pub fn score_play(s: &[u8], play: Play) -> GivenPlay
         Plays::Refused { number, offset } => GivenPlay::Refused { number, offset },
         Plays::Good(a, _) => score_given(play, a),
     }
-}
-
-// The score of a play on a map file, with its slider breaks.
-pub fn score_play_breaks(s: &[u8], play: Play, factors: SliderFactors) -> GivenBreaks
-    ensures { λ r. ⌜ r ≡ withBreaks play factors (givenPlayOf play (scoresOf (fileOf (now (s .entry))))) ⌝ }
-{
-    with_breaks(play, factors, score_play(s, play))
 }
 
 // The score of the play at an index of a map file.

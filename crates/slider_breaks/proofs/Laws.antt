@@ -9,11 +9,9 @@ use Rattle.play_state.specs.declared.Play.{Play}
 use Rattle.play_score.specs.declared.PlayScore.{PlayScore}
 use Rattle.play_score.specs.declared.GivenPlay.{GivenPlay}
 use Rattle.play_score.specs.declared.GivenPlay.the-variants as given
-use Rattle.slider_breaks.specs.Given.{factorsBad, breaksScore, withBreaks}
+use Rattle.slider_breaks.specs.Given.{BreaksScore, GivenBreaks, factorsBad, breaksScore, withBreaks}
+use Rattle.slider_breaks.specs.Given as breaks
 use Rattle.slider_breaks.specs.declared.calculator.SliderFactors.{SliderFactors}
-use Rattle.slider_breaks.specs.declared.BreaksScore.{BreaksScore}
-use Rattle.slider_breaks.specs.declared.GivenBreaks.{GivenBreaks}
-use Rattle.slider_breaks.specs.declared.GivenBreaks.the-variants as breaks
 
 -- any other refusal is that of the call without factors
 pub other-number : (p : Play) (f : SliderFactors) (g : GivenPlay) (n at : ℕ) → n ≢ FACTOR → withBreaks p f g ≡ breaks.Refused n at → g ≡ given.Refused n at

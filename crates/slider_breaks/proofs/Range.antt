@@ -18,7 +18,6 @@ use Rattle.exponential.specs.Exp.{seriesOf, squared, expOf}
 use Rattle.rules.specs.Refusals.{pick}
 use Rattle.rules.proofs.Laws.{and-left, and-right}
 use Rattle.play_state.specs.declared.Play.{Play}
-use Rattle.simulator.specs.declared.attributes.OsuDifficultyAttributes.{OsuDifficultyAttributes}
 use Rattle.estimates.specs.ComboBased.{isClassicOf}
 use Rattle.slider_breaks.specs.Difficulty.{reverseLerpOf, smoothstepOf, logisticOf}
 use Rattle.slider_breaks.specs.SliderBreaks.{adjustedOf, missedComboOf, sliderBreaksOf, bothOf, noBreaks, estimatedBreaks}
@@ -143,12 +142,12 @@ factor-between : (x : Float) → isFactor x ≡ true → Between x 0 10 0
 unfolding isFactor
 factor-between x h = of-tests-between x 10 (lit≤ tt) (and-left (le (whole 0) x) (le x (whole 10)) h) (and-right (le (whole 0) x) (le x (whole 10)) h)
 
-estimate-range : (p : Play) (a : OsuDifficultyAttributes) (effective factor : Float)
-    → p .hitresults .n100 ≤ 65535 → p .«max_combo» ≤ a .«max_combo» → (1 ≤ p .hitresults .n100 → 1 ≤ a .«max_combo») → a .«max_combo» < 2 ^ 32
+estimate-range : (p : Play) (highest : ℕ) (effective factor : Float)
+    → p .hitresults .n100 ≤ 65535 → p .«max_combo» ≤ highest → (1 ≤ p .hitresults .n100 → 1 ≤ highest) → highest < 2 ^ 32
     → le (whole 0) effective ≡ true → le effective (whole 262140) ≡ true → isFactor factor ≡ true
-    → FromNoneToOks (sliderBreaksOf p a effective factor) (p .hitresults .n100)
+    → FromNoneToOks (sliderBreaksOf p highest effective factor) (p .hitresults .n100)
 unfolding sliderBreaksOf
-estimate-range p a effective factor few combo some most above below factored = go (not (isClassicOf (p .origin))) (eqb n100 0) (eqb-false n100 0)
+estimate-range p highest effective factor few combo some most above below factored = go (not (isClassicOf (p .origin))) (eqb n100 0) (eqb-false n100 0)
   where
     n100 : ℕ
     n100 = p .hitresults .n100
@@ -167,13 +166,13 @@ estimate-range p a effective factor few combo some most above below factored = g
     go : (u v : Bool) → (v ≡ false → n100 ≡ 0 → ⊥)
         → FromNoneToOks
         (cond (u || v) (whole 0) (adjustedOf (whole n100) (minOf (effective ⊗ factor) (whole n100)) (smoothstepOf effective (whole 1) (whole 2))
-        (logisticOf (missedComboOf p a) (part 33 100) (whole 15))))
+        (logisticOf (missedComboOf p highest) (part 33 100) (whole 15))))
         n100
     go true v e = none-range n100
     go false true e = none-range n100
     go false false e =
         let l : 1 ≤ n100 = positive n100 (e refl) in
-        let likely = logistic-between (missedComboOf p a) (missed-size (p .«max_combo») (a .«max_combo») combo (some l) most) in
+        let likely = logistic-between (missedComboOf p highest) (missed-size (p .«max_combo») highest combo (some l) most) in
         let r = adjusted-between n100 l few breaks (smoothstep-between (lit< tt) (count .size)) likely in
         record { above = between-above r; below = between-below r (omega arith) }
       where
@@ -182,23 +181,23 @@ estimate-range p a effective factor few combo some most above below factored = g
         positive (suc n) f = omega arith
 
 -- of both factors; without a 100 the map's max combo may be 0
-pub breaks-range : (p : Play) (a : OsuDifficultyAttributes) (effective : Float) (f : SliderFactors)
-    → p .hitresults .n100 ≤ 65535 → p .«max_combo» ≤ a .«max_combo» → (1 ≤ p .hitresults .n100 → 1 ≤ a .«max_combo») → a .«max_combo» < 2 ^ 32
+pub breaks-range : (p : Play) (highest : ℕ) (effective : Float) (f : SliderFactors)
+    → p .hitresults .n100 ≤ 65535 → p .«max_combo» ≤ highest → (1 ≤ p .hitresults .n100 → 1 ≤ highest) → highest < 2 ^ 32
     → le (whole 0) effective ≡ true → le effective (whole 262140) ≡ true → factorsBad f ≡ false
-    → BreaksInRange (estimatedBreaks p a effective f) (p .hitresults .n100)
+    → BreaksInRange (estimatedBreaks p highest effective f) (p .hitresults .n100)
 unfolding estimatedBreaks factorsBad
-breaks-range p a effective f few combo some most above below good = go (lt (whole 0) effective)
+breaks-range p highest effective f few combo some most above below good = go (lt (whole 0) effective)
   where
     both : (x y : Bool) → (not x || not y) ≡ false → (x ≡ true) × (y ≡ true)
     both true true e = (refl, refl)
     both true false e = absurd (true≢false e)
     both false y e = absurd (true≢false e)
 
-    go : (b : Bool) → BreaksInRange (pick b (bothOf p a effective f) noBreaks) (p .hitresults .n100)
+    go : (b : Bool) → BreaksInRange (pick b (bothOf p highest effective f) noBreaks) (p .hitresults .n100)
     go true =
         let factors = both (isFactor (f .aim)) (isFactor (f .speed)) good in
         record {
-          aim = estimate-range p a effective (f .aim) few combo some most above below (factors .0);
-          speed = estimate-range p a effective (f .speed) few combo some most above below (factors .1);
+          aim = estimate-range p highest effective (f .aim) few combo some most above below (factors .0);
+          speed = estimate-range p highest effective (f .speed) few combo some most above below (factors .1);
         }
     go false = record { aim = none-range (p .hitresults .n100); speed = none-range (p .hitresults .n100) }

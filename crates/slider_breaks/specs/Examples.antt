@@ -10,14 +10,12 @@ use Rattle.play_state.specs.declared.OsuScoreOrigin.{OsuScoreOrigin}
 use Rattle.play_state.specs.declared.OsuScoreOrigin.the-variants.{Stable, WithSliderAcc, WithoutSliderAcc}
 use Rattle.play_state.specs.declared.LegacyTotalScore.the-variants.{Absent}
 use Rattle.play_state.specs.declared.Play.{Play}
-use Rattle.simulator.specs.declared.attributes.OsuDifficultyAttributes.{OsuDifficultyAttributes}
 use Rattle.play_score.specs.declared.GivenPlay.the-variants as given
 use Rattle.slider_breaks.specs.Difficulty.{reverseLerpOf, smoothstepOf, logisticOf}
 use Rattle.slider_breaks.specs.SliderBreaks.{adjustedOf, sliderBreaksOf, estimatedBreaks}
-use Rattle.slider_breaks.specs.Given.{isFactor, factorsBad, withBreaks}
+use Rattle.slider_breaks.specs.Given.{GivenBreaks, isFactor, factorsBad, withBreaks}
+use Rattle.slider_breaks.specs.Given as breaks
 use Rattle.slider_breaks.specs.declared.calculator.SliderFactors.{SliderFactors}
-use Rattle.slider_breaks.specs.declared.GivenBreaks.{GivenBreaks}
-use Rattle.slider_breaks.specs.declared.GivenBreaks.the-variants as breaks
 
 -- of a play its origin, 100s and combo, of the passed objects the max combo, and the bits of the effective count and of a factor
 record Row : Type 0 where
@@ -38,22 +36,9 @@ playIn r = record {
   mods = record { flags = 0; «clock_rate» = ofBits binary64 0 };
 }
 
-abbrev attributesIn : Row → OsuDifficultyAttributes
-attributesIn r = record {
-  «max_combo» = r .of;
-  «n_circles» = 0;
-  «n_sliders» = 0;
-  «n_spinners» = 0;
-  «n_repeats» = 0;
-  «n_ticks» = 0;
-  «nested_score_per_object» = ofBits binary64 0;
-  «legacy_score_base_multiplier» = ofBits binary64 0;
-  «maximum_legacy_combo_score» = ofBits binary64 0;
-}
-
 -- with the factor for aim and 1 for speed
 abbrev aimBits : Row → ℕ
-aimBits r = toBits binary64 (estimatedBreaks (playIn r) (attributesIn r) (ofBits binary64 (r .effective)) (record { aim = ofBits binary64 (r .factor); speed = ofBits binary64 0x3ff0_0000_0000_0000 }) .aim)
+aimBits r = toBits binary64 (estimatedBreaks (playIn r) (r .of) (ofBits binary64 (r .effective)) (record { aim = ofBits binary64 (r .factor); speed = ofBits binary64 0x3ff0_0000_0000_0000 }) .aim)
 
 -- the whole formula; within the smoothstep; more than the 100s; no combo, all combo; effective counts of 1 and just below 2; the least factor, 0 and
 -- -0.0; what gives 0 whatever the factor: no effective miss, origin 1, no 100; and passed objects without combo, which no accepted map has

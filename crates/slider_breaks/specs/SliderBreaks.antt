@@ -8,7 +8,6 @@ use Rattle.numbers.specs.Floats.{whole, part, _⊕_, _⊖_, _⊗_, _⊘_}
 use Rattle.numbers.specs.MinMax.{minOf}
 use Rattle.rules.specs.Refusals.{pick}
 use Rattle.play_state.specs.declared.Play.{Play}
-use Rattle.simulator.specs.declared.attributes.OsuDifficultyAttributes.{OsuDifficultyAttributes}
 use Rattle.estimates.specs.ComboBased.{isClassicOf}
 use Rattle.slider_breaks.specs.Difficulty.{smoothstepOf, logisticOf}
 use Rattle.slider_breaks.specs.declared.calculator.SliderFactors.{SliderFactors}
@@ -19,24 +18,24 @@ unfoldable pub adjustedOf : Float → Float → Float → Float → Float
 adjustedOf n100 breaks step likely = breaks ⊗ step ⊗ ((n100 ⊖ breaks ⊕ part 1 2) ⊘ n100) ⊗ likely
 
 -- the part of the passed objects' max combo that the play's lacks
-abbrev pub missedComboOf : Play → OsuDifficultyAttributes → Float
-missedComboOf p a = whole 1 ⊖ whole (p .«max_combo») ⊘ whole (a .«max_combo»)
+abbrev pub missedComboOf : Play → ℕ → Float
+missedComboOf p highest = whole 1 ⊖ whole (p .«max_combo») ⊘ whole highest
 
--- 0 with origin 1 or without a 100
-unfoldable pub sliderBreaksOf : Play → OsuDifficultyAttributes → Float → Float → Float
-sliderBreaksOf p a effective factor =
+-- of a play, the passed objects' max combo, its effective misses and a factor: 0 with origin 1 or without a 100
+unfoldable pub sliderBreaksOf : Play → ℕ → Float → Float → Float
+sliderBreaksOf p highest effective factor =
     let n100 = whole (p .hitresults .n100) in
     cond (not (isClassicOf (p .origin)) || eqb (p .hitresults .n100) 0)
     (whole 0)
-    (adjustedOf n100 (minOf (effective ⊗ factor) n100) (smoothstepOf effective (whole 1) (whole 2)) (logisticOf (missedComboOf p a) (part 33 100) (whole 15)))
+    (adjustedOf n100 (minOf (effective ⊗ factor) n100) (smoothstepOf effective (whole 1) (whole 2)) (logisticOf (missedComboOf p highest) (part 33 100) (whole 15)))
 
 -- "estimated slider breaks for aim and for speed"
-abbrev pub bothOf : Play → OsuDifficultyAttributes → Float → SliderFactors → SliderBreaks
-bothOf p a effective f = record { aim = sliderBreaksOf p a effective (f .aim); speed = sliderBreaksOf p a effective (f .speed) }
+abbrev pub bothOf : Play → ℕ → Float → SliderFactors → SliderBreaks
+bothOf p highest effective f = record { aim = sliderBreaksOf p highest effective (f .aim); speed = sliderBreaksOf p highest effective (f .speed) }
 
 abbrev pub noBreaks : SliderBreaks
 noBreaks = record { aim = whole 0; speed = whole 0 }
 
 -- "an effective count of 0 gives 0"
-unfoldable pub estimatedBreaks : Play → OsuDifficultyAttributes → Float → SliderFactors → SliderBreaks
-estimatedBreaks p a effective f = pick (lt (whole 0) effective) (bothOf p a effective f) noBreaks
+unfoldable pub estimatedBreaks : Play → ℕ → Float → SliderFactors → SliderBreaks
+estimatedBreaks p highest effective f = pick (lt (whole 0) effective) (bothOf p highest effective f) noBreaks

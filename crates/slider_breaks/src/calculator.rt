@@ -5,7 +5,6 @@ use estimates::calculator::is_classic;
 use numbers::minmax::min;
 use numbers::rounding::float;
 use play_state::Play;
-use simulator::attributes::OsuDifficultyAttributes;
 ghost use mathlib.Core.Path.{_≡_};
 ghost use Rattle.slider_breaks.specs.SliderBreaks.{noBreaks, adjustedOf, bothOf, estimatedBreaks};
 
@@ -41,14 +40,14 @@ fn adjusted(n100: f64, breaks: f64, step: f64, likely: f64) -> f64
     breaks * step * ok_adjustment * likely
 }
 
-// For both factors at once: neither curve depends on them.
+// For both factors at once, since neither curve depends on them; `highest` is the passed objects' max combo.
 pub fn calculate_estimated_slider_breaks(
     play: Play,
-    attrs: OsuDifficultyAttributes,
+    highest: u32,
     effective: f64,
     factors: SliderFactors,
 ) -> SliderBreaks
-    ensures { λ r. ⌜ r ≡ bothOf play attrs effective factors ⌝ }
+    ensures { λ r. ⌜ r ≡ bothOf play highest effective factors ⌝ }
 {
     let origin = play.origin;
     if !is_classic(origin) {
@@ -58,7 +57,7 @@ pub fn calculate_estimated_slider_breaks(
         return SliderBreaks::none();
     }
     let n100 = float(play.hitresults.n100 as u64);
-    let missed_combo_percent = 1.0 - float(play.max_combo as u64) / float(attrs.max_combo as u64);
+    let missed_combo_percent = 1.0 - float(play.max_combo as u64) / float(highest as u64);
     let step = smoothstep(effective, 1.0, 2.0);
     let likely = logistic(missed_combo_percent, 0.33, 15.0);
     SliderBreaks {
@@ -70,14 +69,14 @@ pub fn calculate_estimated_slider_breaks(
 // An effective count of 0 gives 0, whatever the factors.
 pub fn slider_breaks(
     play: Play,
-    attrs: OsuDifficultyAttributes,
+    highest: u32,
     effective: f64,
     factors: SliderFactors,
 ) -> SliderBreaks
-    ensures { λ r. ⌜ r ≡ estimatedBreaks play attrs effective factors ⌝ }
+    ensures { λ r. ⌜ r ≡ estimatedBreaks play highest effective factors ⌝ }
 {
     if effective > 0.0 {
-        return calculate_estimated_slider_breaks(play, attrs, effective, factors);
+        return calculate_estimated_slider_breaks(play, highest, effective, factors);
     }
     SliderBreaks::none()
 }

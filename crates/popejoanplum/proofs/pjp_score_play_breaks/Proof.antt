@@ -1,7 +1,14 @@
--- What the call answers for the play and the factors that crossed.
+-- What the call without factors answers, and what the factors that crossed make of it.
+use denote.Ref.{now}
 use borrow.Author.Needs.{needs}
+use Rattle.host.specs.Breaks.{factorsIn}
+use Rattle.host.specs.Play.{playIn}
+use Rattle.host.proofs.BreaksBehind.{behind-play}
 use Rattle.popejoanplum.proofs.pjp_score_play_breaks.Statement.{statement}
 use Rattle.popejoanplum.proofs.pjp_score_play_breaks.Tie as tie
+
+pjp-score-play-requires : tie.Need-pjp-score-play-requires
+pjp-score-play-requires c κs = search needs
 
 play-in-requires : tie.Need-play-in-requires
 play-in-requires c κs = search needs
@@ -9,24 +16,22 @@ play-in-requires c κs = search needs
 factors-in-requires : tie.Need-factors-in-requires
 factors-in-requires c κs = search needs
 
-score-play-breaks-requires : tie.Need-score-play-breaks-requires
-score-play-breaks-requires c κs = search needs
-
-breaks-answer-of-requires : tie.Need-breaks-answer-of-requires
-breaks-answer-of-requires c κs = search needs
+breaks-behind-requires : tie.Need-breaks-behind-requires
+breaks-behind-requires c κs = search needs
 
 returns : tie.Need-returns
 returns c =
-    let scored = c .before in
-    let crossed = scored .before in
-    simp (c .breaks-answer-of .ensures, scored .score-play-breaks .ensures, crossed .factors-in .ensures, crossed .before .play-in .ensures)
+    let played = c .before .before in
+    let a = played .before .before .before .args in
+    simp (c .breaks-behind .ensures, c .before .factors-in .ensures, played .play-in .ensures, played .before .pjp-score-play .ensures)
+    (behind-play (now (a .file)) (playIn (a .play)) (factorsIn (a .factors)))
 
 pub pjp-score-play-breaks-spec : {M : Type 1} → statement M
 pjp-score-play-breaks-spec =
     tie.close
     (tie.spec
+    pjp-score-play-requires
     play-in-requires
     factors-in-requires
-    score-play-breaks-requires
-    breaks-answer-of-requires
+    breaks-behind-requires
     returns)

@@ -39,9 +39,6 @@ cast-float-2 c = search needs
 float-requires-2 : tie.Need-float-requires-2
 float-requires-2 c κs = search needs
 
-cast-float-3 : tie.Need-cast-float-3
-cast-float-3 c = search needs
-
 float-requires-3 : tie.Need-float-requires-3
 float-requires-3 c κs = search needs
 
@@ -69,7 +66,7 @@ returns-3 c =
     let min1 = c .before .before .before .before in
     let curves = min1 .before .before in
     let floats = curves .before .before in
-    let first = floats .before .before .before .before in
+    let first = floats .before .before .before in
     let tests = first .before .before in
     simp (
       c .adjusted2 .ensures,
@@ -79,7 +76,7 @@ returns-3 c =
       curves .logistic .ensures,
       curves .before .smoothstep .ensures,
       floats .float3 .ensures,
-      floats .before .before .float2 .ensures,
+      floats .before .float2 .ensures,
       first .float .ensures,
       ne-eqb _ _ (tests .if2 .left),
       rw (tests .before .before .before .is-classic .ensures) at (tests .before .before .if1 .left),
@@ -98,7 +95,6 @@ calculate-estimated-slider-breaks-spec =
     float-requires
     cast-float-2
     float-requires-2
-    cast-float-3
     float-requires-3
     smoothstep-requires
     logistic-requires

@@ -28,8 +28,9 @@ use Rattle.estimates.specs.Effective.{estimatesOf}
 use Rattle.estimates.proofs.Range.{FromMissesToJudgements}
 use Rattle.play_score.specs.declared.GivenPlay.the-variants as given
 use Rattle.play_score.specs.PlayRules.{givenAnswer}
-use Rattle.slider_breaks.specs.Given.{withBreaks}
+use Rattle.slider_breaks.specs.Given.{BreaksScore, withBreaks}
 use Rattle.slider_breaks.specs.declared.calculator.SliderFactors.{SliderFactors}
+use Rattle.slider_breaks.proofs.Range.{BreaksInRange}
 use Rattle.slider_breaks.specs.Given as breaks
 use Rattle.scoring.specs.Scores.{refusal, values, Scores, scoresOf, givenPlayOf}
 use Rattle.scoring.proofs.Answers.{no-number}
@@ -49,6 +50,7 @@ use Rattle.board.proofs.Numbers.{Numbered, read-numbered}
 use Rattle.demands.proofs.Refusals.{edit-numbered, BreaksNumbered, play-breaks-numbered, read-breaks-numbered, effective-of-a-play}
 use Rattle.demands.proofs.Files.{scoredPlays, plays-are-scored, RulesKept, only-when-kept, when-kept}
 use Rattle.demands.proofs.Exactness.{combo-points-exact, spinner-score-exact}
+use Rattle.demands.proofs.BreaksRange.{breaks-of-a-play}
 use Rattle.demands.proofs.Maps.{within-scored, accepted-is-within, within-is-accepted, accepted-gets-none}
 use Rattle.demands.proofs.CallsRight.{edit-accepts, calls-right}
 use Rattle.demands.proofs.Boards.{Leads, Touches, build-is-done}
@@ -113,6 +115,11 @@ values-are-the-definition's s sc e =
 -- the effective miss count lies from the misses to the judgements, whatever the attributes
 pub effective-misses-in-range : (p : Play) (a : OsuDifficultyAttributes) → HitsWithin (p .hitresults) → FromMissesToJudgements (estimatesOf p a .effective) (p .hitresults)
 effective-misses-in-range = effective-of-a-play
+
+-- document 02, §1: on every accepted play each of the two estimates of slider breaks lies from 0 to the play's 100s
+pub slider-breaks-in-range : (s : List ℕ) (p : Play) (f : SliderFactors) (b : BreaksScore)
+    → withBreaks p f (givenPlayOf p (scoresOf (fileOf s))) ≡ breaks.Score b → BreaksInRange (b .slider-breaks) (p .hitresults .n100)
+slider-breaks-in-range = breaks-of-a-play
 
 -- "These products are exact; no cast saturates": for every accepted map and passed count, the Rust's float products and sums are the whole numbers of
 -- the definitions

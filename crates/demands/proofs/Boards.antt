@@ -33,7 +33,7 @@ use Rattle.slider_breaks.specs.declared.calculator.SliderFactors.{SliderFactors
 use Rattle.slider_breaks.specs.Given as breaks
 use Rattle.slider_breaks.proofs.Laws.{other-number}
 use Rattle.scoring.specs.Scores.{Outcome, Scores, scoresOf}
-use Rattle.scoring.proofs.Rules.{Ruled, fine, rule, ruled-bind, ruled-when, ruled-object, ruled-score-of, two, three, eight}
+use Rattle.scoring.proofs.Rules.{Ruled, fine, rule, ruled-bind, ruled-when, ruled-object, ruled-given, two, three}
 use Rattle.entries.specs.Entry.{entryOf, placeWords}
 use Rattle.tree.specs.Size.{levelsOf, capOf}
 use Rattle.tree.specs.Put.{climbed}
@@ -173,15 +173,11 @@ never-13-edit m words numbers place r a e =
     go true (refused n) (rule is) h = let s : n ≡ 13 = cc in absurd (omega (arith, s, is .1))
     go true (good o) k h = accepts (isAccepted (changed m place o)) h
 
-pub score-ruled : (p : Play) (a : ScoreAttributes) → Ruled (givenScore p a)
-unfolding givenScore
-score-ruled p a = ruled-when 8 _ _ eight (ruled-score-of p a)
-
 pub never-13-read : (m : Map) (words : List ℕ) (numbers : List Float) (p : Play) → AcceptedMap m
     → answer (read (length (m .objects)) (m .settings) (timesOf (m .breaks)) p) (lentFor m words numbers) ≢ reads (given.Refused 13 0)
 unfolding answer
 never-13-read m words numbers p a e =
-    go (givenScore p (scoreAttributesAt m (p .«passed_objects»))) (score-ruled p (scoreAttributesAt m (p .«passed_objects»)))
+    go (givenScore p (scoreAttributesAt m (p .«passed_objects»))) (ruled-given p (scoreAttributesAt m (p .«passed_objects»)))
     (sym (ap (λ (x : Checked PlayScore). reads (givenAnswer x)) (read-right m words numbers p (accepted-is-within m a))) ∙ e)
   where
     go : (x : Checked PlayScore) → Ruled x → reads (givenAnswer x) ≢ reads (given.Refused 13 0)

@@ -34,7 +34,7 @@ use Rattle.slider_breaks.specs.Given.{BreaksScore, GivenBreaks, factorsBad, bre
 use Rattle.slider_breaks.specs.Given as breaks
 use Rattle.slider_breaks.specs.declared.calculator.SliderFactors.{SliderFactors}
 use Rattle.scoring.specs.Scores.{Outcome, refusal, values, Scores, scoresOf, givenPlayOf}
-use Rattle.scoring.proofs.Rules.{Ruled, fine, rule, refusal-rule}
+use Rattle.scoring.proofs.Rules.{Ruled, fine, rule, refusal-rule, ruled-given}
 use Rattle.entries.specs.Entry.{entryOf}
 use Rattle.tree.specs.Size.{levelsOf, capOf}
 use Rattle.board.specs.Place.{putPlace}
@@ -42,7 +42,7 @@ use Rattle.board.specs.Edit.{editOf}
 use Rattle.board.specs.Read.{readOf}
 use Rattle.board.proofs.Numbers.{Numbered, value, number, numbered-bind, numbered-then, numbered-when, room-numbered, climbed-numbered, read-numbered}
 use Rattle.board.specs.declared.place.Written.the-variants as written
-use Rattle.demands.proofs.Boards.{record-ruled, score-ruled}
+use Rattle.demands.proofs.Boards.{record-ruled}
 
 numbered-rule : {A : Type 0} {x : Checked A} → Ruled x → Numbered x
 numbered-rule fine = value
@@ -80,7 +80,7 @@ play-breaks-numbered s p f = go (scoresOf (fileOf s)) refl
     go (refusal n at) e = let r = refusal-rule s n at e in numbered (r .0) (omega (arith, r .1))
     go (values sc) e =
         let a = scoreAttributesAt (sc .map) (p .«passed_objects») in
-        numbered-with p f (givenScore p a) (numbered-rule (score-ruled p a))
+        numbered-with p f (givenScore p a) (numbered-rule (ruled-given p a))
 
 -- ---- so none has number 0
 not-0 : {A : Type 0} {x : Checked A} → Numbered x → x ≡ refused 0 → ⊥

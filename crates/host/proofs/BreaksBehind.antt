@@ -13,7 +13,6 @@ use Rattle.play_state.specs.declared.Play.{Play}
 use Rattle.records.specs.declared.beatmap.Settings.{Settings}
 use Rattle.map_file.specs.File.{fileOf}
 use Rattle.simulator.specs.Attributes.{scoreAttributesAt}
-use Rattle.simulator.specs.declared.attributes.ScoreAttributes.{ScoreAttributes}
 use Rattle.play_score.specs.PlayRules.{givenAnswer, givenScore}
 use Rattle.play_score.specs.declared.PlayScore.{PlayScore}
 use Rattle.play_score.specs.declared.GivenPlay.{GivenPlay}
@@ -23,7 +22,7 @@ use Rattle.slider_breaks.specs.Given.{factorsBad, breaksScore, withBreaks}
 use Rattle.slider_breaks.specs.Given as given·breaks
 use Rattle.slider_breaks.specs.declared.calculator.SliderFactors.{SliderFactors}
 use Rattle.scoring.specs.Scores.{Outcome, refusal, values, Scores, scoresOf, givenPlayOf}
-use Rattle.scoring.proofs.Rules.{Ruled, fine, rule, refusal-rule, ruled-score-of, ruled-when, eight}
+use Rattle.scoring.proofs.Rules.{Ruled, fine, rule, refusal-rule, ruled-given}
 use Rattle.board.specs.Read.{readOf}
 use Rattle.board.proofs.Numbers.{Numbered, value, number, read-numbered}
 use Rattle.host.specs.Answer.{playAnswerIn, playAnswerRefused, givenAnswerOf}
@@ -54,10 +53,6 @@ told-rule : (x : Checked PlayScore) → Ruled x → Told (givenAnswer x)
 told-rule (refused n) (rule r) = omega (arith, r .0)
 told-rule (good s) fine = tt
 
-given-ruled : (p : Play) (a : ScoreAttributes) → Ruled (givenScore p a)
-unfolding givenScore
-given-ruled p a = ruled-when 8 _ _ eight (ruled-score-of p a)
-
 -- on any lent memory
 pub behind-read : (b : List ℕ) (ts : List Float) (n : ℕ) (s : Settings) (br : List Float) (p : Play) (f : SliderFactors)
     → behindAnswer p f (givenAnswerOf (givenAnswer (readOf b ts n s br p))) ≡ breaksAnswerOf (withBreaks p f (givenAnswer (readOf b ts n s br p)))
@@ -70,4 +65,4 @@ behind-play s p f = behind p f (givenPlayOf p (scoresOf (fileOf s))) (go (scores
   where
     go : (x : Outcome Scores) → scoresOf (fileOf s) ≡ x → Told (givenPlayOf p x)
     go (refusal n at) e = let r = refusal-rule s n at e in omega (arith, r .0)
-    go (values sc) e = told-rule _ (given-ruled p (scoreAttributesAt (sc .map) (p .«passed_objects»)))
+    go (values sc) e = told-rule _ (ruled-given p (scoreAttributesAt (sc .map) (p .«passed_objects»)))

@@ -24,7 +24,6 @@ use Rattle.encoding.specs.Limits.{Each, one, ObjectWithin, MapWithin}
 use Rattle.encoding.proofs.FieldBytes.{fields-length}
 use Rattle.encoding.proofs.RoundTrip.{object-back}
 use Rattle.simulator.specs.Attributes.{scoreAttributesAt}
-use Rattle.simulator.specs.declared.attributes.ScoreAttributes.{ScoreAttributes}
 use Rattle.play_score.specs.PlayRules.{givenAnswer, givenScore}
 use Rattle.play_score.specs.declared.PlayScore.{PlayScore}
 use Rattle.play_score.specs.declared.GivenPlay.the-variants as given

@@ -1,16 +1,14 @@
 -- On every accepted play each estimate of slider breaks lies from 0 to the play's 100s: what exceeds its map is refused, so the judgements are at most
 -- the passed objects, each of which adds to the max combo. Assumes nothing.
-use mathlib.Core.Bool.{Bool, true, false, _&&_, _||_, true≢false}
+use mathlib.Core.Bool.{Bool, true, false, _||_}
 use mathlib.Core.List.{List, [], _∷_}
-use mathlib.Core.Path.{_≡_, refl, sym, ap, _∙_, subst}
-use Prim.Native.Nat.{ℕ, _+_, _*_, _^_, _≤_, _<_}
+use mathlib.Core.Path.{_≡_, refl, sym, subst}
+use Prim.Native.Nat.{ℕ, _+_, _≤_}
 use native.Mathlib.Omega.{arith}
 use borrow.Author.Tests.{ltb-false}
 use lib.Dec.{ltb}
-use lib.Ieee.{Float, le}
 use lib.ListN.{length, take, length-take}
-use Rattle.numbers.specs.Floats.{whole}
-use Rattle.rules.specs.Limits.{maxObjects, maxCombo}
+use Rattle.rules.specs.Limits.{maxObjects}
 use Rattle.rules.specs.Refusals.{Checked, good, refused, _>>_, refuse_when_, PLAY-FIELD, PLAY-EXCEEDS, PLAY-COMBO}
 use Rattle.rules.proofs.Laws.{never}
 use Rattle.play_state.specs.declared.Play.{Play}
@@ -22,7 +20,7 @@ use Rattle.simulator.specs.Combo.{gain}
 use Rattle.simulator.specs.Hits.{hitsOf}
 use Rattle.simulator.specs.Walk.{State, fresh, walk, after}
 use Rattle.simulator.specs.Nested.{noObject}
-use Rattle.simulator.specs.Attributes.{scoreAttributesAt, scoreAttributesOf, legacyAttributesOf, difficultyAttributesOf}
+use Rattle.simulator.specs.Attributes.{scoreAttributesAt, scoreAttributesOf, difficultyAttributesOf}
 use Rattle.simulator.specs.declared.attributes.ScoreAttributes.{ScoreAttributes}
 use Rattle.simulator.proofs.Few.{count-is}
 use Rattle.simulator.proofs.Sums.{walk-gain}
@@ -31,7 +29,6 @@ use Rattle.estimates.specs.Effective.{estimatesOf}
 use Rattle.play_score.specs.PlayRules.{modsBad, hitsExceed, exceeds, overCombo, playScore, givenAnswer, givenScore}
 use Rattle.play_score.specs.declared.PlayScore.{PlayScore}
 use Rattle.play_score.specs.declared.GivenPlay.the-variants as given
-use Rattle.slider_breaks.specs.SliderBreaks.{estimatedBreaks}
 use Rattle.slider_breaks.specs.Given.{BreaksScore, factorsBad, breaksScore, withBreaks}
 use Rattle.slider_breaks.specs.declared.calculator.SliderFactors.{SliderFactors}
 use Rattle.slider_breaks.specs.Given as breaks

@@ -1,22 +1,21 @@
 -- On any lent memory a refused edit or read has one of document 01's numbers, 2 to 13, with factors 14 too, and no refusal has number 0, which a host
 -- takes for a good call.
 -- And what a play is told of its misses lies from its misses to its judgements. Assumes nothing.
-use mathlib.Core.Bool.{Bool, true, false, cond, _&&_, _||_, true≢false}
+use mathlib.Core.Bool.{Bool, true, false, _&&_, _||_, true≢false}
 use mathlib.Core.List.{List, [], _∷_}
 use mathlib.Core.Path.{_≡_, refl, sym}
-use Prim.Native.Nat.{ℕ, zero, suc, _+_, _-_, _*_, _/_, _^_, _≤_, min, zero-le}
+use Prim.Native.Nat.{ℕ, zero, suc, _+_, _*_, _≤_, zero-le}
 use native.Mathlib.Nat.{mul-pos, zero-lt-suc}
 use native.Mathlib.Omega.{arith}
 use borrow.Author.Tests.{eqb-true, le-ltb}
-use lib.Dec.{T, eqb, leb, lit≤}
+use lib.Dec.{T, eqb, lit≤}
 use lib.Ieee.{Float, nan, inf, fin, up, down, le, lt, eq, isNan, ofInt}
 use lib.Ieee.Fits.{up-pos, down-pos}
-use lib.ListN.{getD}
 use Rattle.numbers.specs.Floats.{whole}
 use Rattle.numbers.proofs.Bounds.{plain}
 use Rattle.numbers.proofs.Order.{whole-le, le-of-not-lt}
 use Rattle.numbers.proofs.Intervals.{whole-at-least, of-tests-between, wider, between-below}
-use Rattle.rules.specs.Refusals.{Checked, good, refused, _>>=_, _>>_, refuse_when_, pick, FACTOR}
+use Rattle.rules.specs.Refusals.{Checked, good, refused, refuse_when_, pick, FACTOR}
 use Rattle.rules.proofs.Laws.{never}
 use Rattle.play_state.specs.declared.Play.{Play}
 use Rattle.records.specs.declared.beatmap.Settings.{Settings}
@@ -41,7 +40,6 @@ use Rattle.board.specs.Place.{putPlace}
 use Rattle.board.specs.Edit.{editOf}
 use Rattle.board.specs.Read.{readOf}
 use Rattle.board.proofs.Numbers.{Numbered, value, number, numbered-bind, numbered-then, numbered-when, room-numbered, climbed-numbered, read-numbered}
-use Rattle.board.specs.declared.place.Written.the-variants as written
 use Rattle.demands.proofs.Boards.{record-ruled}
 
 numbered-rule : {A : Type 0} {x : Checked A} → Ruled x → Numbered x

@@ -1,7 +1,7 @@
 -- Values of the steps that a second program worked out, in doubles: at 0, 1, -1, at both ends of what the slider breaks ask for, at -700 and just below
 -- it, and where the squarings overflow.
 use mathlib.Core.Path.{_≡_, refl}
-use mathlib.Core.List.{List, [], _∷_, map}
+use mathlib.Core.List.{[], _∷_, map}
 use Prim.Native.Nat.{ℕ}
 use lib.Ieee.{binary64, ofBits, toBits, round, ofInt, add, mul, div, lt, neg, sum}
 use Rattle.exponential.specs.Exp.{seriesOf, squared, expOf}

@@ -1,7 +1,6 @@
 // `exp` by document 02's steps: a series of eight terms at v / 1024, then ten squarings.
 use numbers::rounding::float;
 ghost use mathlib.Core.Path.{_≡_};
-ghost use Prim.Native.Nat.{_≤_};
 ghost use Rattle.numbers.specs.Floats.{whole};
 ghost use Rattle.exponential.specs.Exp.{seriesOf, squared, expOf};
 

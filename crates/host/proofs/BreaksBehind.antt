@@ -3,17 +3,15 @@ use Prim.Native.Nat.{ℕ, _≤_}
 use native.Mathlib.Omega.{arith}
 use mathlib.Core.Bool.{Bool, true, false}
 use mathlib.Core.List.{List}
-use mathlib.Core.Logic.{_≢_}
-use mathlib.Core.Path.{_≡_, refl, ap, _∙_}
+use mathlib.Core.Path.{_≡_, refl}
 use borrow.Author.Tests.{ne-eqb}
 use lib.Ieee.{Float}
-use Rattle.rules.specs.Refusals.{Checked, good, refused, pick, FACTOR, _>>_, refuse_when_}
-use Rattle.rules.proofs.Laws.{never}
+use Rattle.rules.specs.Refusals.{Checked, good, refused, pick, FACTOR}
 use Rattle.play_state.specs.declared.Play.{Play}
 use Rattle.records.specs.declared.beatmap.Settings.{Settings}
 use Rattle.map_file.specs.File.{fileOf}
 use Rattle.simulator.specs.Attributes.{scoreAttributesAt}
-use Rattle.play_score.specs.PlayRules.{givenAnswer, givenScore}
+use Rattle.play_score.specs.PlayRules.{givenAnswer}
 use Rattle.play_score.specs.declared.PlayScore.{PlayScore}
 use Rattle.play_score.specs.declared.GivenPlay.{GivenPlay}
 use Rattle.play_score.specs.declared.GivenPlay.the-variants as given
@@ -27,7 +25,6 @@ use Rattle.board.specs.Read.{readOf}
 use Rattle.board.proofs.Numbers.{Numbered, value, number, read-numbered}
 use Rattle.host.specs.Answer.{playAnswerIn, playAnswerRefused, givenAnswerOf}
 use Rattle.host.specs.Breaks.{answerWith, breaksAnswerOf, behindAnswer}
-use Rattle.host.specs.declared.breaks.BreaksAnswer.{BreaksAnswer}
 
 -- a refusal has a number above 0
 abbrev Told : GivenPlay → Type 0

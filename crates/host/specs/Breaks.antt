@@ -1,6 +1,5 @@
 -- Factors as a host gives them, and the values of a play with its slider breaks as a host gets them.
 use lib.Dec.{eqb}
-use lib.Ieee.{Float}
 use Rattle.rules.specs.Refusals.{pick, FACTOR}
 use Rattle.play_state.specs.declared.Play.{Play}
 use Rattle.slider_breaks.specs.SliderBreaks.{noBreaks, estimatedBreaks}

@@ -6,10 +6,9 @@ use mathlib.Core.Path.{_≡_, refl, subst}
 use Rattle.rules.specs.Refusals.{pick, FACTOR}
 use Rattle.rules.proofs.Laws.{never}
 use Rattle.play_state.specs.declared.Play.{Play}
-use Rattle.play_score.specs.declared.PlayScore.{PlayScore}
 use Rattle.play_score.specs.declared.GivenPlay.{GivenPlay}
 use Rattle.play_score.specs.declared.GivenPlay.the-variants as given
-use Rattle.slider_breaks.specs.Given.{BreaksScore, GivenBreaks, factorsBad, breaksScore, withBreaks}
+use Rattle.slider_breaks.specs.Given.{BreaksScore, factorsBad, breaksScore, withBreaks}
 use Rattle.slider_breaks.specs.Given as breaks
 use Rattle.slider_breaks.specs.declared.calculator.SliderFactors.{SliderFactors}
 

@@ -1,9 +1,9 @@
 -- The slider breaks of some plays, worked out by a second program in doubles; 14 at its edges, and which of two faults is told.
 use Prim.Native.Nat.{ℕ}
-use mathlib.Core.Bool.{Bool, true, false}
+use mathlib.Core.Bool.{true, false}
 use mathlib.Core.Path.{_≡_, refl}
 use mathlib.Core.List.{List, [], _∷_, map}
-use lib.Ieee.{Float, binary64, ofBits, toBits, ofInt, round, add, sub, mul, div, neg, sum, lt, le, eq, isNan}
+use lib.Ieee.{binary64, ofBits, toBits, ofInt, round, add, sub, mul, div, neg, sum, lt, le, eq, isNan}
 use Rattle.numbers.specs.MinMax.{minOf, clampOf}
 use Rattle.exponential.specs.Exp.{seriesOf, squared, expOf}
 use Rattle.play_state.specs.declared.OsuScoreOrigin.{OsuScoreOrigin}
@@ -13,7 +13,7 @@ use Rattle.play_state.specs.declared.Play.{Play}
 use Rattle.play_score.specs.declared.GivenPlay.the-variants as given
 use Rattle.slider_breaks.specs.Difficulty.{reverseLerpOf, smoothstepOf, logisticOf}
 use Rattle.slider_breaks.specs.SliderBreaks.{adjustedOf, sliderBreaksOf, estimatedBreaks}
-use Rattle.slider_breaks.specs.Given.{GivenBreaks, isFactor, factorsBad, withBreaks}
+use Rattle.slider_breaks.specs.Given.{isFactor, factorsBad, withBreaks}
 use Rattle.slider_breaks.specs.Given as breaks
 use Rattle.slider_breaks.specs.declared.calculator.SliderFactors.{SliderFactors}
 

@@ -1,7 +1,7 @@
 -- Document 02, §1: `calculate_estimated_slider_breaks`, each operation rounded once, in the Rust's order. "The effective count is document 01's, and
 -- no flag zeroes the breaks."
 use Prim.Native.Nat.{ℕ}
-use mathlib.Core.Bool.{Bool, not, cond, _||_}
+use mathlib.Core.Bool.{not, cond, _||_}
 use lib.Dec.{eqb}
 use lib.Ieee.{Float, lt}
 use Rattle.numbers.specs.Floats.{whole, part, _⊕_, _⊖_, _⊗_, _⊘_}

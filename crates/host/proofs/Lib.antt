@@ -1,2 +1,2 @@
 pub mod OutOfRange
-pub mod BreaksBehind
+pub mod BreaksAdded

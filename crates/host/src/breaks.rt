@@ -10,7 +10,7 @@ use slider_breaks::calculator::SliderFactors;
 use slider_breaks::calculator::slider_breaks;
 use slider_breaks::has_bad_factors;
 ghost use mathlib.Core.Path.{_≡_};
-ghost use Rattle.host.specs.Breaks.{factorsIn, answerWith, behindAnswer};
+ghost use Rattle.host.specs.Breaks.{factorsIn, withSliderBreaks, addedTo, answerWith};
 
 #[repr(C)]
 pub struct HostFactors {
@@ -34,6 +34,12 @@ pub struct BreaksAnswer {
     pub slider_breaks: HostSliderBreaks,
 }
 
+// What factors add to an answer.
+pub enum Added {
+    BadFactors,
+    SliderBreaks(SliderBreaks),
+}
+
 pub fn factors_in(f: HostFactors) -> SliderFactors
     ensures { λ r. ⌜ r ≡ factorsIn f ⌝ }
 {
@@ -43,8 +49,8 @@ pub fn factors_in(f: HostFactors) -> SliderFactors
     }
 }
 
-fn answer_with(answer: PlayAnswer, b: SliderBreaks) -> BreaksAnswer
-    ensures { λ r. ⌜ r ≡ answerWith answer b ⌝ }
+fn with_slider_breaks(answer: PlayAnswer, b: SliderBreaks) -> BreaksAnswer
+    ensures { λ r. ⌜ r ≡ withSliderBreaks answer b ⌝ }
 {
     let attributes = answer.attributes;
     let estimates = answer.estimates;
@@ -60,19 +66,31 @@ fn answer_with(answer: PlayAnswer, b: SliderBreaks) -> BreaksAnswer
     }
 }
 
-// What a call with factors answers, from the answer of the same call without them: its refusal, then 14, then the values. It starts from that answer,
-// and not from the engine's, so that the engine's call has one caller and is compiled into it.
-pub fn breaks_behind(play: Play, factors: SliderFactors, answer: PlayAnswer) -> BreaksAnswer
-    ensures { λ r. ⌜ r ≡ behindAnswer play factors answer ⌝ }
+// What the factors add to the answer of the same call without them: nothing to a refusal. It starts from that answer, and not from the engine's, so
+// that the engine's call has one caller and is compiled into it.
+pub fn added_by(play: Play, factors: SliderFactors, answer: PlayAnswer) -> Added
+    ensures { λ r. ⌜ r ≡ addedTo play factors answer ⌝ }
 {
     if answer.status != 0 {
-        return answer_with(answer, SliderBreaks::none());
+        return Added::SliderBreaks(SliderBreaks::none());
     }
     if has_bad_factors(factors) {
-        let refused = play_answer_refused(refusal::FACTOR, 0);
-        return answer_with(refused, SliderBreaks::none());
+        return Added::BadFactors;
     }
     let highest = answer.attributes.max_combo;
     let effective = answer.estimates.effective;
-    answer_with(answer, slider_breaks(play, highest, effective, factors))
+    Added::SliderBreaks(slider_breaks(play, highest, effective, factors))
+}
+
+// What a call with factors answers: the refusal of the same call without them, then 14, then the values.
+pub fn answer_with(answer: PlayAnswer, added: Added) -> BreaksAnswer
+    ensures { λ r. ⌜ r ≡ answerWith answer added ⌝ }
+{
+    match added {
+        Added::BadFactors => {
+            let refused = play_answer_refused(refusal::FACTOR, 0);
+            with_slider_breaks(refused, SliderBreaks::none())
+        }
+        Added::SliderBreaks(b) => with_slider_breaks(answer, b),
+    }
 }

@@ -12,7 +12,8 @@ use host::answer::listed_answer_of;
 use host::answer::map_answer_of;
 use host::breaks::BreaksAnswer;
 use host::breaks::HostFactors;
-use host::breaks::breaks_behind;
+use host::breaks::added_by;
+use host::breaks::answer_with;
 use host::breaks::factors_in;
 use host::map::HostSettings;
 use host::map::MapInfo;
@@ -89,7 +90,7 @@ pub extern "C" fn pjp_score_play_breaks(
     ensures { λ r. ⌜ r ≡ breaksAnswerOf (withBreaks (playIn play) (factorsIn factors) (givenPlayOf (playIn play) (scoresOf (fileOf (now (file .entry)))))) ⌝ }
 {
     let answer = pjp_score_play(file, play);
-    breaks_behind(play_in(play), factors_in(factors), answer)
+    answer_with(answer, added_by(play_in(play), factors_in(factors), answer))
 }
 
 // The play at an index of the file.
@@ -160,5 +161,5 @@ pub extern "C" fn pjp_read_breaks(
     ensures { λ _. ⌜ (now (board .exit) ≡ now (board .entry)) × (now (starts .exit) ≡ now (starts .entry)) × (now (breaks .exit) ≡ now (breaks .entry)) ⌝ }
 {
     let answer = pjp_read(board, starts, count, settings, breaks, play);
-    breaks_behind(play_in(play), factors_in(factors), answer)
+    answer_with(answer, added_by(play_in(play), factors_in(factors), answer))
 }

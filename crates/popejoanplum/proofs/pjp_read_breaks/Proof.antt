@@ -5,7 +5,7 @@ use borrow.Author.Needs.{needs}
 use Rattle.host.specs.Breaks.{factorsIn}
 use Rattle.host.specs.Map.{settingsIn}
 use Rattle.host.specs.Play.{playIn}
-use Rattle.host.proofs.BreaksBehind.{behind-read}
+use Rattle.host.proofs.BreaksAdded.{added-read}
 use Rattle.popejoanplum.proofs.pjp_read_breaks.Statement.{statement}
 use Rattle.popejoanplum.proofs.pjp_read_breaks.Tie as tie
 
@@ -18,15 +18,19 @@ play-in-requires c κs = search needs
 factors-in-requires : tie.Need-factors-in-requires
 factors-in-requires c κs = search needs
 
-breaks-behind-requires : tie.Need-breaks-behind-requires
-breaks-behind-requires c κs = search needs
+added-by-requires : tie.Need-added-by-requires
+added-by-requires c κs = search needs
+
+answer-with-requires : tie.Need-answer-with-requires
+answer-with-requires c κs = search needs
 
 returns : tie.Need-returns
 returns c =
-    let played = c .before .before in
+    let added = c .before in
+    let played = added .before .before in
     let a = played .before .before .before .before .before .args in (
-      simp (c .breaks-behind .ensures, c .before .factors-in .ensures, played .play-in .ensures, played .before .pjp-read .ensures .0)
-          (behind-read (now (a .board)) (now (a .starts)) (a .count) (settingsIn (a .settings)) (now (a .breaks)) (playIn (a .play)) (factorsIn (a .factors))),
+      simp (c .answer-with .ensures, added .added-by .ensures, added .before .factors-in .ensures, played .play-in .ensures, played .before .pjp-read .ensures .0)
+          (added-read (now (a .board)) (now (a .starts)) (a .count) (settingsIn (a .settings)) (now (a .breaks)) (playIn (a .play)) (factorsIn (a .factors))),
       (refl, refl, refl),
     )
 
@@ -37,5 +41,6 @@ pjp-read-breaks-spec =
     pjp-read-requires
     play-in-requires
     factors-in-requires
-    breaks-behind-requires
+    added-by-requires
+    answer-with-requires
     returns)

@@ -3,7 +3,7 @@ use denote.Ref.{now}
 use borrow.Author.Needs.{needs}
 use Rattle.host.specs.Breaks.{factorsIn}
 use Rattle.host.specs.Play.{playIn}
-use Rattle.host.proofs.BreaksBehind.{behind-play}
+use Rattle.host.proofs.BreaksAdded.{added-play}
 use Rattle.popejoanplum.proofs.pjp_score_play_breaks.Statement.{statement}
 use Rattle.popejoanplum.proofs.pjp_score_play_breaks.Tie as tie
 
@@ -16,15 +16,19 @@ play-in-requires c κs = search needs
 factors-in-requires : tie.Need-factors-in-requires
 factors-in-requires c κs = search needs
 
-breaks-behind-requires : tie.Need-breaks-behind-requires
-breaks-behind-requires c κs = search needs
+added-by-requires : tie.Need-added-by-requires
+added-by-requires c κs = search needs
+
+answer-with-requires : tie.Need-answer-with-requires
+answer-with-requires c κs = search needs
 
 returns : tie.Need-returns
 returns c =
-    let played = c .before .before in
+    let added = c .before in
+    let played = added .before .before in
     let a = played .before .before .before .args in
-    simp (c .breaks-behind .ensures, c .before .factors-in .ensures, played .play-in .ensures, played .before .pjp-score-play .ensures)
-    (behind-play (now (a .file)) (playIn (a .play)) (factorsIn (a .factors)))
+    simp (c .answer-with .ensures, added .added-by .ensures, added .before .factors-in .ensures, played .play-in .ensures, played .before .pjp-score-play .ensures)
+    (added-play (now (a .file)) (playIn (a .play)) (factorsIn (a .factors)))
 
 pub pjp-score-play-breaks-spec : {M : Type 1} → statement M
 pjp-score-play-breaks-spec =
@@ -33,5 +37,6 @@ pjp-score-play-breaks-spec =
     pjp-score-play-requires
     play-in-requires
     factors-in-requires
-    breaks-behind-requires
+    added-by-requires
+    answer-with-requires
     returns)

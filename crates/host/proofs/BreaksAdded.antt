@@ -24,20 +24,21 @@ use Rattle.scoring.proofs.Rules.{Ruled, fine, rule, refusal-rule, ruled-given}
 use Rattle.board.specs.Read.{readOf}
 use Rattle.board.proofs.Numbers.{Numbered, value, number, read-numbered}
 use Rattle.host.specs.Answer.{playAnswerIn, playAnswerRefused, givenAnswerOf}
-use Rattle.host.specs.Breaks.{answerWith, breaksAnswerOf, behindAnswer}
+use Rattle.host.specs.declared.breaks.Added.the-variants as added
+use Rattle.host.specs.Breaks.{withSliderBreaks, breaksAnswerOf, addedTo, answerWith}
 
 -- a refusal has a number above 0
 abbrev Told : GivenPlay → Type 0
 Told (given.Refused n at) = 1 ≤ n
 Told (given.Score s) = Unit {0}
 
-behind : (p : Play) (f : SliderFactors) (g : GivenPlay) → Told g → behindAnswer p f (givenAnswerOf g) ≡ breaksAnswerOf (withBreaks p f g)
-unfolding behindAnswer
-behind p f (given.Refused n at) h = simp (ne-eqb n 0 (λ e. omega (arith, h, e)))
-behind p f (given.Score s) h = go (factorsBad f)
+added-is : (p : Play) (f : SliderFactors) (g : GivenPlay) → Told g → answerWith (givenAnswerOf g) (addedTo p f (givenAnswerOf g)) ≡ breaksAnswerOf (withBreaks p f g)
+unfolding addedTo
+added-is p f (given.Refused n at) h = simp (ne-eqb n 0 (λ e. omega (arith, h, e)))
+added-is p f (given.Score s) h = go (factorsBad f)
   where
     go : (t : Bool)
-        → pick t (answerWith (playAnswerRefused FACTOR 0) noBreaks) (answerWith (playAnswerIn s) (estimatedBreaks p (s .attributes .difficulty .«max_combo») (s .estimates .effective) f))
+        → answerWith (playAnswerIn s) (pick t added.BadFactors (added.SliderBreaks (estimatedBreaks p (s .attributes .difficulty .«max_combo») (s .estimates .effective) f)))
         ≡ breaksAnswerOf (pick t (given·breaks.Refused FACTOR 0) (given·breaks.Score (breaksScore p f s)))
     go true = refl
     go false = refl
@@ -51,14 +52,14 @@ told-rule (refused n) (rule r) = omega (arith, r .0)
 told-rule (good s) fine = tt
 
 -- on any lent memory
-pub behind-read : (b : List ℕ) (ts : List Float) (n : ℕ) (s : Settings) (br : List Float) (p : Play) (f : SliderFactors)
-    → behindAnswer p f (givenAnswerOf (givenAnswer (readOf b ts n s br p))) ≡ breaksAnswerOf (withBreaks p f (givenAnswer (readOf b ts n s br p)))
-behind-read b ts n s br p f = behind p f (givenAnswer (readOf b ts n s br p)) (told-number (readOf b ts n s br p) (read-numbered b ts n s br p))
+pub added-read : (b : List ℕ) (ts : List Float) (n : ℕ) (s : Settings) (br : List Float) (p : Play) (f : SliderFactors)
+    → answerWith (givenAnswerOf (givenAnswer (readOf b ts n s br p))) (addedTo p f (givenAnswerOf (givenAnswer (readOf b ts n s br p)))) ≡ breaksAnswerOf (withBreaks p f (givenAnswer (readOf b ts n s br p)))
+added-read b ts n s br p f = added-is p f (givenAnswer (readOf b ts n s br p)) (told-number (readOf b ts n s br p) (read-numbered b ts n s br p))
 
 -- on any file
-pub behind-play : (s : List ℕ) (p : Play) (f : SliderFactors)
-    → behindAnswer p f (givenAnswerOf (givenPlayOf p (scoresOf (fileOf s)))) ≡ breaksAnswerOf (withBreaks p f (givenPlayOf p (scoresOf (fileOf s))))
-behind-play s p f = behind p f (givenPlayOf p (scoresOf (fileOf s))) (go (scoresOf (fileOf s)) refl)
+pub added-play : (s : List ℕ) (p : Play) (f : SliderFactors)
+    → answerWith (givenAnswerOf (givenPlayOf p (scoresOf (fileOf s)))) (addedTo p f (givenAnswerOf (givenPlayOf p (scoresOf (fileOf s))))) ≡ breaksAnswerOf (withBreaks p f (givenPlayOf p (scoresOf (fileOf s))))
+added-play s p f = added-is p f (givenPlayOf p (scoresOf (fileOf s))) (go (scoresOf (fileOf s)) refl)
   where
     go : (x : Outcome Scores) → scoresOf (fileOf s) ≡ x → Told (givenPlayOf p x)
     go (refusal n at) e = let r = refusal-rule s n at e in omega (arith, r .0)

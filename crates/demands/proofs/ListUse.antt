@@ -60,11 +60,11 @@ use Rattle.demands.proofs.Lists.{left-at-last}
 at : ℕ → Kind → Object
 at t k = record { start = whole t; kind = k }
 
--- run (4)
+-- run (4) with a break
 built-map : Map
 built-map = record {
   settings = record { hp = whole 5; od = whole 5; cs = whole 5 };
-  breaks = [];
+  breaks = record { «start_time» = whole 6000; «end_time» = whole 8000 } ∷ [];
   objects = at 0 circle ∷ at 5000 (slider (tick ∷ repeat ∷ tick ∷ [])) ∷ at 10000 circle ∷ [];
 }
 
@@ -77,6 +77,9 @@ words = replicate 105 7
 
 numbers : List Float
 numbers = nan ∷ nan ∷ nan ∷ whole 9 ∷ []
+
+times : List Float
+times = whole 6000 ∷ whole 8000 ∷ []
 
 first : Lent
 first = lentBy file words numbers
@@ -99,9 +102,9 @@ playOn combo n300 n100 misses = record {
 play : Play
 play = playOn 7 3 0 0
 
--- a play whose combo broke: 2 effective misses
+-- a play whose combo broke: 2 effective misses, and by its combo alone 1.15
 broken : Play
-broken = playOn 2 1 1 1
+broken = playOn 6 0 1 2
 
 -- one with more combo than the map has
 beyond : Play
@@ -121,10 +124,10 @@ list =
     ∷ edit 3 3 spin
     ∷ edit 3 0 (spin ++ (0 ∷ []))
     ∷ edit 9000 0 spin
-    ∷ read 3 (built-map .settings) [] play
-    ∷ read-breaks 3 (built-map .settings) [] broken factors
-    ∷ read-breaks 3 (built-map .settings) [] broken wrong-factors
-    ∷ read-breaks 3 (built-map .settings) [] beyond wrong-factors
+    ∷ read 3 (built-map .settings) times play
+    ∷ read-breaks 3 (built-map .settings) times broken factors
+    ∷ read-breaks 3 (built-map .settings) times broken wrong-factors
+    ∷ read-breaks 3 (built-map .settings) times beyond wrong-factors
     ∷ read 2 (built-map .settings) (whole 1 ∷ []) play
     ∷ read-breaks 2 (built-map .settings) (whole 1 ∷ []) play factors
     ∷ []
@@ -135,13 +138,13 @@ edited = lentAfter (edit 9000 0 spin) (lentAfter (edit 3 0 (spin ++ (0 ∷ [])))
 
 -- behind the read, and behind each of the first two with factors
 read-once : Lent
-read-once = lentAfter (read 3 (built-map .settings) [] play) edited
+read-once = lentAfter (read 3 (built-map .settings) times play) edited
 
 read-twice : Lent
-read-twice = lentAfter (read-breaks 3 (built-map .settings) [] broken factors) read-once
+read-twice = lentAfter (read-breaks 3 (built-map .settings) times broken factors) read-once
 
 read-thrice : Lent
-read-thrice = lentAfter (read-breaks 3 (built-map .settings) [] broken wrong-factors) read-twice
+read-thrice = lentAfter (read-breaks 3 (built-map .settings) times broken wrong-factors) read-twice
 
 -- ---- the claim's premises, computed
 done : built (scoresOf (fileOf file)) words numbers .0 ≡ written.Done
@@ -170,11 +173,11 @@ valuesOf (reads (given.Refused n at)) = []
 valuesOf (reads (given.Score s)) = (s .attributes .multiplier, s .attributes .legacy .«combo_score», s .attributes .legacy .«bonus_score» .0) ∷ []
 valuesOf (reads-breaks a) = []
 
--- legacy bonus, and the bits of both breaks of a read with factors, or the number of its refusal
+-- legacy bonus, and the bits of both breaks of a read with factors, or the number and offset of its refusal
 breaksIn : CallAnswer → List ℕ
 breaksIn (edits w) = []
 breaksIn (reads a) = []
-breaksIn (reads-breaks (given·breaks.Refused n at)) = n ∷ []
+breaksIn (reads-breaks (given·breaks.Refused n at)) = n ∷ at ∷ []
 breaksIn (reads-breaks (given·breaks.Score s)) =
     s .score .attributes .legacy .«bonus_score» .0 ∷ toBits binary64 (s .slider-breaks .aim) ∷ toBits binary64 (s .slider-breaks .speed) ∷ []
 
@@ -188,14 +191,14 @@ record Told : Type 0 where
   first-edit : answer (edit 3 2 spin) first ≡ edits written.Done
   second-edit : answer (edit 3 3 spin) (lentAfter (edit 3 2 spin) first) ≡ edits (written.Refused 12 0)
   third-edit : answer (edit 3 0 (spin ++ (0 ∷ []))) (lentAfter (edit 3 3 spin) (lentAfter (edit 3 2 spin) first)) ≡ edits (written.Refused 3 0)
-  first-read : valuesOf (answer (read 3 (built-map .settings) [] play) edited) ≡ (2, 240, 8800) ∷ []
+  first-read : valuesOf (answer (read 3 (built-map .settings) times play) edited) ≡ (2, 240, 8800) ∷ []
   -- the Rust's steps in another program's doubles gave these bits
-  with-factors : breaksIn (answer (read-breaks 3 (built-map .settings) [] broken factors) read-once) ≡ 8800 ∷ 0x3fd3_effc_4d2c_1855 ∷ 0x3fdf_e660_7b79_c088 ∷ []
-  with-a-wrong-one : breaksIn (answer (read-breaks 3 (built-map .settings) [] broken wrong-factors) read-twice) ≡ 14 ∷ []
-  beyond-the-map : breaksIn (answer (read-breaks 3 (built-map .settings) [] beyond wrong-factors) read-thrice) ≡ 9 ∷ []
+  with-factors : breaksIn (answer (read-breaks 3 (built-map .settings) times broken factors) read-once) ≡ 8800 ∷ 0x3f92_3879_ed03_2d18 ∷ 0x3f9d_2729_7b38_4826 ∷ []
+  with-a-wrong-one : breaksIn (answer (read-breaks 3 (built-map .settings) times broken wrong-factors) read-twice) ≡ 14 ∷ 0 ∷ []
+  beyond-the-map : breaksIn (answer (read-breaks 3 (built-map .settings) times beyond wrong-factors) read-thrice) ≡ 9 ∷ 0 ∷ []
 
 told : Told
-unfolding first edited read-once read-twice read-thrice at built-map words file numbers list spin playOn play broken beyond factors wrong-factors valuesOf breaksIn isAccepted timesOf mapAfter objectIn mapFile headerBytes breakBytes nestedBytes objectBytes each fieldsOf fileOf fileFrom with-record countsOf bonus recordOf bodyOf objectOf headerOf breakOf circleOf sliderOf spinnerOf playOf nestedOf hitresultsOf flagsBad wordAt bytesOf _>>=_ _>>_ refuse_when_ ofBits le lt eq neg ofInt toBits playScores levelsFrom levelsOf boardOf wordsFrom boardEntry entryIn covered entryOf total legacyOf standardisedOf spinnerScoreOf totalHalfSpins requiredHalfSpins add sub mul div toUnsigned isNan halfSpinPoints repeats ticks givenScore playScore modsBad exceeds hitsExceed overCombo isDue scoreAttributesAt scoreAttributesOf legacyAttributesOf difficultyAttributesOf bonusRatioOf nestedScoreOf counted countedAll breaksOf breaksLength drainAt multiplierAt starsOf ratioOf clampOf roundTiesEvenI32 halfSpins hitsOf walk after maxOf minOf thresholdOf cappedOf brokenOf classicOf comboBasedOf scoreBasedFor scoreBasedOf heldOf effectiveOf estimatesOf isFactor factorsBad estimatedBreaks sliderBreaksOf adjustedOf reverseLerpOf smoothstepOf logisticOf expOf seriesOf squared round playBytes
+unfolding times first edited read-once read-twice read-thrice at built-map words file numbers list spin playOn play broken beyond factors wrong-factors valuesOf breaksIn isAccepted timesOf mapAfter objectIn mapFile headerBytes breakBytes nestedBytes objectBytes each fieldsOf fileOf fileFrom with-record countsOf bonus recordOf bodyOf objectOf headerOf breakOf circleOf sliderOf spinnerOf playOf nestedOf hitresultsOf flagsBad wordAt bytesOf _>>=_ _>>_ refuse_when_ ofBits le lt eq neg ofInt toBits playScores levelsFrom levelsOf boardOf wordsFrom boardEntry entryIn covered entryOf total legacyOf standardisedOf spinnerScoreOf totalHalfSpins requiredHalfSpins add sub mul div toUnsigned isNan halfSpinPoints repeats ticks givenScore playScore modsBad exceeds hitsExceed overCombo isDue scoreAttributesAt scoreAttributesOf legacyAttributesOf difficultyAttributesOf bonusRatioOf nestedScoreOf counted countedAll breaksOf breaksLength drainAt multiplierAt starsOf ratioOf clampOf roundTiesEvenI32 halfSpins hitsOf walk after maxOf minOf thresholdOf cappedOf brokenOf classicOf comboBasedOf scoreBasedFor scoreBasedOf heldOf effectiveOf estimatesOf isFactor factorsBad estimatedBreaks sliderBreaksOf adjustedOf reverseLerpOf smoothstepOf logisticOf expOf seriesOf squared round playBytes
 told =
     let right : Right (7 ∷ []) (whole 9 ∷ []) list (mapIn (fileOf file)) first = calls-right file words numbers list done stands in
     record {
@@ -204,8 +207,8 @@ told =
       second-edit = right .1 .0 refl;
       third-edit = right .1 .1 .0 refl;
       first-read = ap valuesOf (right .1 .1 .1 .1 .0 refl refl refl (sized 7 3 0 0 (lit< tt) (lit< tt) (lit< tt) (lit< tt)) .as-scored);
-      with-factors = ap breaksIn (right .1 .1 .1 .1 .1 .0 refl refl refl (sized 2 1 1 1 (lit< tt) (lit< tt) (lit< tt) (lit< tt)) .as-called);
-      with-a-wrong-one = ap breaksIn (right .1 .1 .1 .1 .1 .1 .0 refl refl refl (sized 2 1 1 1 (lit< tt) (lit< tt) (lit< tt) (lit< tt)) .as-called);
+      with-factors = ap breaksIn (right .1 .1 .1 .1 .1 .0 refl refl refl (sized 6 0 1 2 (lit< tt) (lit< tt) (lit< tt) (lit< tt)) .as-called);
+      with-a-wrong-one = ap breaksIn (right .1 .1 .1 .1 .1 .1 .0 refl refl refl (sized 6 0 1 2 (lit< tt) (lit< tt) (lit< tt) (lit< tt)) .as-called);
       beyond-the-map = ap breaksIn (right .1 .1 .1 .1 .1 .1 .1 .0 refl refl refl (sized 8 1 1 1 (lit< tt) (lit< tt) (lit< tt) (lit< tt)) .as-in-file);
     }
 

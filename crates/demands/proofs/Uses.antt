@@ -84,17 +84,17 @@ no-edit-gets-0 b ts n place r = not-0 (editOf b ts n place r) (refused-edit-by-a
 no-read-gets-0 : (b : List ℕ) (ts : List Float) (n : ℕ) (s : Settings) (br : List Float) (p : Play) → readOf b ts n s br p ≢ refused 0
 no-read-gets-0 b ts n s br p = not-0 (readOf b ts n s br p) (refused-read-by-a-rule b ts n s br p)
 
--- with factors neither 0 nor 15, which would be a heat's
+-- with factors neither 1, which is the program's own, nor 15, which would be a heat's
 abbrev breaksNumber : GivenBreaks → ℕ
-breaksNumber (breaks.Score s) = 1
+breaksNumber (breaks.Score s) = 2
 breaksNumber (breaks.Refused n at) = n
 
-between : (x : GivenBreaks) → BreaksNumbered x → (1 ≤ breaksNumber x) × (breaksNumber x ≤ 14)
+between : (x : GivenBreaks) → BreaksNumbered x → (2 ≤ breaksNumber x) × (breaksNumber x ≤ 14)
 between (breaks.Score s) scored = (omega arith, omega arith)
-between (breaks.Refused n at) (numbered l h) = (omega (arith, l), h)
+between (breaks.Refused n at) (numbered l h) = (l, h)
 
-no-play-with-factors-gets-0 : (s : List ℕ) (p : Play) (f : SliderFactors) (at : ℕ) → withBreaks p f (givenPlayOf p (scoresOf (fileOf s))) ≢ breaks.Refused 0 at
-no-play-with-factors-gets-0 s p f at e = omega (arith, between _ (refused-play-breaks-by-a-rule s p f) .0, ap breaksNumber e)
+no-play-with-factors-gets-1 : (s : List ℕ) (p : Play) (f : SliderFactors) (at : ℕ) → withBreaks p f (givenPlayOf p (scoresOf (fileOf s))) ≢ breaks.Refused 1 at
+no-play-with-factors-gets-1 s p f at e = omega (arith, between _ (refused-play-breaks-by-a-rule s p f) .0, ap breaksNumber e)
 
 no-read-with-factors-gets-15 : (b : List ℕ) (ts : List Float) (n : ℕ) (s : Settings) (br : List Float) (p : Play) (f : SliderFactors) (at : ℕ)
     → withBreaks p f (givenAnswer (readOf b ts n s br p)) ≢ breaks.Refused 15 at
@@ -129,10 +129,11 @@ nothing-judged p a w e =
 
 -- a play without a 100 is told of no slider break
 no-100-no-break : (s : List ℕ) (p : Play) (f : SliderFactors) (b : BreaksScore) → withBreaks p f (givenPlayOf p (scoresOf (fileOf s))) ≡ breaks.Score b
-    → p .hitresults .n100 ≡ 0 → (le (b .slider-breaks .aim) (whole 0) ≡ true) × (le (whole 0) (b .slider-breaks .speed) ≡ true)
+    → p .hitresults .n100 ≡ 0 → (le (whole 0) (b .slider-breaks .aim) ≡ true) × (le (b .slider-breaks .aim) (whole 0) ≡ true) × (le (whole 0) (b .slider-breaks .speed) ≡ true) × (le (b .slider-breaks .speed) (whole 0) ≡ true)
 no-100-no-break s p f b e none =
     let range = slider-breaks-in-range s p f b e in
-    (subst (λ (n : ℕ). le (b .slider-breaks .aim) (whole n) ≡ true) none (range .aim .below), range .speed .above)
+    let most : (x : Float) → le x (whole (p .hitresults .n100)) ≡ true → le x (whole 0) ≡ true = λ x. subst (λ (n : ℕ). le x (whole n) ≡ true) none in
+    (range .aim .above, most _ (range .aim .below), range .speed .above, most _ (range .speed .below))
 
 -- two accepted maps whose spinners count the same have the same sum in the Rust
 same-spinner-sum : (m m′ : Map) (p : ℕ) → AcceptedMap m → AcceptedMap m′

@@ -3,3 +3,4 @@ pub mod Map
 pub mod Play
 pub mod Answer
 pub mod Breaks
+mod Examples

@@ -15,7 +15,7 @@ use Rattle.play_score.specs.PlayRules.{givenAnswer}
 use Rattle.play_score.specs.declared.PlayScore.{PlayScore}
 use Rattle.play_score.specs.declared.GivenPlay.{GivenPlay}
 use Rattle.play_score.specs.declared.GivenPlay.the-variants as given
-use Rattle.slider_breaks.specs.SliderBreaks.{noBreaks, estimatedBreaks}
+use Rattle.slider_breaks.specs.SliderBreaks.{estimatedBreaks}
 use Rattle.slider_breaks.specs.Given.{factorsBad, breaksScore, withBreaks}
 use Rattle.slider_breaks.specs.Given as given·breaks
 use Rattle.slider_breaks.specs.declared.calculator.SliderFactors.{SliderFactors}
@@ -23,9 +23,9 @@ use Rattle.scoring.specs.Scores.{Outcome, refusal, values, Scores, scoresOf, gi
 use Rattle.scoring.proofs.Rules.{Ruled, fine, rule, refusal-rule, ruled-given}
 use Rattle.board.specs.Read.{readOf}
 use Rattle.board.proofs.Numbers.{Numbered, value, number, read-numbered}
-use Rattle.host.specs.Answer.{playAnswerIn, playAnswerRefused, givenAnswerOf}
+use Rattle.host.specs.Answer.{playAnswerIn, givenAnswerOf}
 use Rattle.host.specs.declared.breaks.Added.the-variants as added
-use Rattle.host.specs.Breaks.{withSliderBreaks, breaksAnswerOf, addedTo, answerWith}
+use Rattle.host.specs.Breaks.{breaksAnswerOf, addedTo, answerWith}
 
 -- a refusal has a number above 0
 abbrev Told : GivenPlay → Type 0

@@ -2,7 +2,7 @@
 
 use oracle::{
     reader::Refusal,
-    values::{Attributes, Estimates},
+    values::{Attributes, Estimates, SliderBreaks},
 };
 use popejoanplum::sys;
 
@@ -25,6 +25,13 @@ pub enum Answer {
     Play([u64; 12], [Bits; 2], [Bits; 4], bool),
     Done,
     Refused(u8, usize),
+}
+
+/// The answer of a call with factors: that of the call without them, and the breaks, 0 where it is refused.
+#[derive(Debug, PartialEq)]
+pub struct BreaksAnswer {
+    answer: Answer,
+    breaks: [Bits; 2],
 }
 
 /// The whole numbers of attributes in the library's order, and their floats.
@@ -138,6 +145,45 @@ impl From<Result<plain::Score, u8>> for Answer {
         match answer {
             Ok(score) => (&score.attributes, &score.estimates).into(),
             Err(number) => Self::Refused(number, 0),
+        }
+    }
+}
+
+impl From<(&Attributes, &Estimates, &SliderBreaks)> for BreaksAnswer {
+    fn from((a, e, b): (&Attributes, &Estimates, &SliderBreaks)) -> Self {
+        Self {
+            answer: (a, e).into(),
+            breaks: [b.aim, b.speed].map(Bits::from),
+        }
+    }
+}
+
+impl From<sys::BreaksAnswer> for BreaksAnswer {
+    fn from(answer: sys::BreaksAnswer) -> Self {
+        let front = sys::PlayAnswer {
+            status: answer.status,
+            offset: answer.offset,
+            attributes: answer.attributes,
+            estimates: answer.estimates,
+        };
+        Self {
+            answer: front.into(),
+            breaks: [answer.slider_breaks.aim, answer.slider_breaks.speed].map(Bits::from),
+        }
+    }
+}
+
+/// Plain Rust's read with factors.
+impl From<Result<plain::BreaksScore, u8>> for BreaksAnswer {
+    fn from(answer: Result<plain::BreaksScore, u8>) -> Self {
+        match answer {
+            Ok(plain::BreaksScore { score, breaks }) => {
+                (&score.attributes, &score.estimates, &breaks).into()
+            }
+            Err(number) => Self {
+                answer: Answer::Refused(number, 0),
+                breaks: [0.0; 2].map(Bits::from),
+            },
         }
     }
 }

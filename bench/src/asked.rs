@@ -1,7 +1,7 @@
 //! What was asked of the library beside what a run measured.
 
 use crate::{
-    boards::{BoardTimes, Pair},
+    boards::{BoardTimes, FactorTimes, Pair},
     number::{significant, whole},
     results::Results,
     scores::ScoreTimes,
@@ -58,6 +58,7 @@ pub fn asked(results: &Results) -> String {
         "of the map as the file has it",
         score.rust,
     ));
+    aims.extend(with_factors(board));
     aims.extend(builds(board));
     let scores = results.scores.iter().chain(&results.different);
     aims.extend(scores.filter(|row| row.size == 1_000).map(of_score));
@@ -88,6 +89,20 @@ fn against_walk(board: &BoardTimes, which: &str, walk: f64) -> Vec<Aim> {
         measured: walk / call.ours,
     };
     calls.map(aim).into()
+}
+
+fn with_factors(board: &BoardTimes) -> Vec<Aim> {
+    let reads = [
+        ("passes all objects", board.factors_all),
+        ("has passed counts all over the map", board.factors_spread),
+    ];
+    let aim = |(which, times): (&str, FactorTimes)| Aim {
+        what: format!("a read with factors that {which}, against the same without factors"),
+        objects: board.size as u64,
+        asked: Asked::Within(1.3),
+        measured: times.with.ours / times.alone.ours,
+    };
+    reads.map(aim).into()
 }
 
 fn builds(board: &BoardTimes) -> Vec<Aim> {
@@ -154,6 +169,8 @@ mod tests {
             "at least 1,000 × faster | 667 × | no |",
             "at least 1,000 × faster | 400 × | no |",
             "at least 500 × faster | 625 × | yes |",
+            "at most 1.3 × the time | 1.50 × | no |",
+            "at most 1.3 × the time | 1.25 × | yes |",
             "at most 2 × the time | 1.43 × | yes |",
             "at most 2 × the time | 9.09 × | no |",
             "at most 0.5 × the time | 0.278 × | yes |",

@@ -6,8 +6,8 @@ use oracle::{map::Play, values::Original};
 use popejoanplum::sys;
 
 use crate::{
-    answer::Answer,
-    cases::{Case, Turns},
+    answer::{Answer, BreaksAnswer},
+    cases::{Broken, Case, Turns},
     lent::Lent,
     measure::Samples,
     proved::{self, GOOD},
@@ -29,6 +29,13 @@ impl From<[f64; 2]> for Pair {
     }
 }
 
+/// Reads of the same plays without factors and with them.
+#[derive(Clone, Copy, Debug)]
+pub struct FactorTimes {
+    pub alone: Pair,
+    pub with: Pair,
+}
+
 /// Nanoseconds of each call on a map of some size.
 #[derive(Clone, Copy, Debug)]
 pub struct BoardTimes {
@@ -38,6 +45,8 @@ pub struct BoardTimes {
     pub read_all: Pair,
     pub read_spread: Pair,
     pub read_nearly: Pair,
+    pub factors_all: FactorTimes,
+    pub factors_spread: FactorTimes,
     pub read_map: f64,
     pub score_map: f64,
     /// The Rust's values of a play that passes all objects.
@@ -59,6 +68,8 @@ pub fn measure(case: &Case, samples: Samples) -> BoardTimes {
         read_all: reads(&case.all_passed, random),
         read_spread: reads(&case.spread, random),
         read_nearly: reads(&case.nearly_all, in_order),
+        factors_all: factor_reads(case, &board, &case.broken_all_passed, samples),
+        factors_spread: factor_reads(case, &board, &case.broken_spread, samples),
         read_map,
         score_map,
         walk,
@@ -83,6 +94,9 @@ fn checked(case: &Case, original: &Original) -> Lent {
     for plays in [&case.all_passed, &case.spread, &case.nearly_all] {
         check_reads(case, original, &board, plays);
     }
+    for given in [&case.broken_all_passed, &case.broken_spread] {
+        check_factor_reads(case, original, &board, given);
+    }
     board
 }
 
@@ -94,6 +108,25 @@ fn check_reads(case: &Case, original: &Original, board: &Lent, plays: &[Play]) {
         let ours = board.read(proved::settings(settings), proved::play(play));
         assert_eq!(Answer::from(ours), due);
         assert_eq!(Answer::from(board.plain_read(settings, play)), due);
+    }
+}
+
+/// The plays are those that they should be: each has breaks by each factor.
+fn check_factor_reads(case: &Case, original: &Original, board: &Lent, given: &[Broken]) {
+    let settings = &case.map.settings;
+    for Broken { play, factors } in given {
+        let attributes = original.attributes(play.passed.into());
+        let estimates = attributes.estimates(play);
+        let breaks = attributes.slider_breaks(play, &estimates, *factors);
+        assert!(breaks.aim > 0.0 && breaks.speed > 0.0, "{breaks:?}");
+        let (our_play, our_factors) = (proved::play(play), proved::factors(*factors));
+        let alone = board.read(proved::settings(settings), our_play);
+        assert_eq!(Answer::from(alone), (&attributes, &estimates).into());
+        let due: BreaksAnswer = (&attributes, &estimates, &breaks).into();
+        let ours = board.read_breaks(proved::settings(settings), our_play, our_factors);
+        assert_eq!(BreaksAnswer::from(ours), due);
+        let plain = board.plain_read_breaks(settings, play, *factors);
+        assert_eq!(BreaksAnswer::from(plain), due);
     }
 }
 
@@ -168,6 +201,41 @@ fn reads(case: &Case, board: &Lent, plays: &[Play], turns: Turns, samples: Sampl
         ],
     );
     medians.into()
+}
+
+/// Both kinds of reads take the same plays in the same order, in turns.
+fn factor_reads(case: &Case, board: &Lent, given: &[Broken], samples: Samples) -> FactorTimes {
+    let plain_settings = &case.map.settings;
+    let settings = proved::settings(plain_settings);
+    let our = |given: &Broken| (proved::play(&given.play), proved::factors(given.factors));
+    let our_given: Vec<(sys::Play, sys::SliderFactors)> = given.iter().map(our).collect();
+    let [mut first, mut second, mut third, mut fourth] =
+        [(); 4].map(|()| Turns::random(given.len()));
+    let [alone, with, plain_alone, plain_with] = samples.medians(
+        CALLS,
+        [
+            &mut || {
+                let (play, _) = black_box(our_given[first.next()]);
+                black_box(board.read(settings, play));
+            },
+            &mut || {
+                let (play, factors) = black_box(our_given[second.next()]);
+                black_box(board.read_breaks(settings, play, factors));
+            },
+            &mut || {
+                let Broken { play, .. } = black_box(&given[third.next()]);
+                black_box(&board.plain_read(plain_settings, play));
+            },
+            &mut || {
+                let Broken { play, factors } = black_box(&given[fourth.next()]);
+                black_box(&board.plain_read_breaks(plain_settings, play, *factors));
+            },
+        ],
+    );
+    FactorTimes {
+        alone: [alone, plain_alone].into(),
+        with: [with, plain_with].into(),
+    }
 }
 
 /// Calls in a sample that take all objects.

@@ -3,6 +3,7 @@
 use oracle::{
     encode::{self, encode},
     generate::{mixed::mixed_map, objects, random::Random},
+    given::Factors,
     map::{MapFile, Object, ObjectKind, Play},
 };
 
@@ -19,6 +20,12 @@ pub struct Edit {
     pub record: Vec<u8>,
 }
 
+/// A play with factors whose slider breaks take the whole formula.
+pub struct Broken {
+    pub play: Play,
+    pub factors: Factors,
+}
+
 /// A map of mixed objects with what is done to it.
 pub struct Case {
     pub size: usize,
@@ -30,6 +37,8 @@ pub struct Case {
     pub all_passed: Vec<Play>,
     pub spread: Vec<Play>,
     pub nearly_all: Vec<Play>,
+    pub broken_all_passed: Vec<Broken>,
+    pub broken_spread: Vec<Broken>,
 }
 
 impl Case {
@@ -46,16 +55,23 @@ impl Case {
             };
             (0..VARIED).map(play).collect::<Vec<Play>>()
         };
+        let all_passed = plays(&mut |_| size);
+        let spread = plays(&mut |r| r.between(1, size as u64) as usize);
+        let broken_all = plays(&mut |_| size);
+        let broken_spread = plays(&mut |r| r.between(FEWEST_BROKEN, size as u64) as usize);
+        let mut broken = |plays: Vec<Play>| plays.into_iter().map(|play| broken(r, play)).collect();
         Self {
             size,
             file: encode(&map),
             map,
             edits,
-            all_passed: plays(&mut |_| size),
-            spread: plays(&mut |r| r.between(1, size as u64) as usize),
+            all_passed,
+            spread,
             nearly_all: (1..=NEARLY.min(size / 2))
                 .map(|left| regular_play(size - left, combos[size - left]))
                 .collect(),
+            broken_all_passed: broken(broken_all),
+            broken_spread: broken(broken_spread),
             edited,
         }
     }
@@ -132,6 +148,26 @@ fn play(r: &mut Random, passed: usize, combo: u32) -> Play {
         flags: r.pick(&[0, 1, 4, 8, 12, 16]),
         clock_rate: r.pick(&[0.75, 1.0, 1.5]),
         ..Play::default()
+    }
+}
+
+/// Room for a 100 and two misses.
+const FEWEST_BROKEN: u64 = 3;
+
+/// The play with a 100 and two misses more: with a 100, origin 0 and more than one effective miss nothing of its slider
+/// breaks' formula is left out.
+fn broken(r: &mut Random, play: Play) -> Broken {
+    Broken {
+        play: Play {
+            n300: play.n300 - 3,
+            n100: play.n100 + 1,
+            misses: play.misses + 2,
+            ..play
+        },
+        factors: Factors {
+            aim: r.between(1, 10_240) as f64 / 1_024.0,
+            speed: r.between(1, 10_240) as f64 / 1_024.0,
+        },
     }
 }
 

@@ -9,7 +9,7 @@ use oracle::{
 };
 
 use crate::{
-    cases::{Case, Edit, VARIED},
+    cases::{Broken, Case, Edit, VARIED},
     lent::Lent,
     plain,
     proved::{self, GOOD},
@@ -24,6 +24,9 @@ pub struct Counts {
     pub edit: f64,
     pub plain_edit: f64,
     pub walk: f64,
+    /// Of a play with slider breaks, without factors and with them.
+    pub alone: f64,
+    pub with_factors: f64,
 }
 
 /// What is counted: its name as a subcommand, the function in which callgrind counts, and how many calls are made.
@@ -38,6 +41,8 @@ const PLAIN_READ: Counted = Counted::new("plain-read", "bench_plain_read", VARIE
 const EDIT: Counted = Counted::new("edit", "pjp_edit", VARIED);
 const PLAIN_EDIT: Counted = Counted::new("plain-edit", "bench_plain_edit", VARIED);
 const WALK: Counted = Counted::new("walk", "bench_walk", 4);
+const ALONE: Counted = Counted::new("read-alone", "pjp_read", VARIED);
+const WITH_FACTORS: Counted = Counted::new("read-breaks", "pjp_read_breaks", VARIED);
 
 impl Counted {
     const fn new(name: &'static str, function: &'static str, calls: usize) -> Self {
@@ -82,6 +87,8 @@ pub fn measure(size: usize) -> Result<Counts, String> {
         edit: EDIT.count(size)?,
         plain_edit: PLAIN_EDIT.count(size)?,
         walk: WALK.count(size)?,
+        alone: ALONE.count(size)?,
+        with_factors: WITH_FACTORS.count(size)?,
     })
 }
 
@@ -96,6 +103,14 @@ pub fn run(name: &str, size: usize) -> Result<(), String> {
     let is = |counted: Counted| name == counted.name;
     if is(READ) {
         good &= plays.all(|play| board.read(settings, proved::play(play)).status == 0);
+    } else if is(ALONE) {
+        let alone = |given: &Broken| board.read(settings, proved::play(&given.play)).status;
+        good &= case.broken_spread.iter().all(|given| alone(given) == 0);
+    } else if is(WITH_FACTORS) {
+        good &= case.broken_spread.iter().all(|given| {
+            let (play, factors) = (proved::play(&given.play), proved::factors(given.factors));
+            board.read_breaks(settings, play, factors).status == 0
+        });
     } else if is(PLAIN_READ) {
         good &= plays.all(|play| one_plain_read(case, board, play).is_ok());
     } else if is(EDIT) {
@@ -147,7 +162,15 @@ mod tests {
     #[test]
     fn an_unknown_name_is_refused() {
         assert!(run("nothing", 10).is_err());
-        for counted in [READ, PLAIN_READ, EDIT, PLAIN_EDIT, WALK] {
+        for counted in [
+            READ,
+            PLAIN_READ,
+            EDIT,
+            PLAIN_EDIT,
+            WALK,
+            ALONE,
+            WITH_FACTORS,
+        ] {
             assert_eq!(run(counted.name, 10), Ok(()));
         }
     }

@@ -1,6 +1,7 @@
 //! The lent memory of a board, with the calls of both sides on it.
 
 use oracle::{
+    given::Factors,
     map::{Play, Settings},
     reader::Refusal,
 };
@@ -56,5 +57,25 @@ impl Lent {
     pub fn plain_read(&self, settings: &Settings, play: &Play) -> Result<plain::Score, u8> {
         let Self { words, starts } = self;
         plain::read(words, starts, self.count(), settings, &[], play)
+    }
+
+    pub fn read_breaks(
+        &self,
+        settings: sys::Settings,
+        play: sys::Play,
+        factors: sys::SliderFactors,
+    ) -> sys::BreaksAnswer {
+        let Self { words, starts } = self;
+        proved::read_breaks(words, starts, self.count(), settings, &[], play, factors)
+    }
+
+    pub fn plain_read_breaks(
+        &self,
+        settings: &Settings,
+        play: &Play,
+        factors: Factors,
+    ) -> Result<plain::BreaksScore, u8> {
+        let Self { words, starts } = self;
+        plain::read_breaks(words, starts, self.count(), settings, &[], play, factors)
     }
 }

@@ -12,8 +12,10 @@ pub fn page(results: &Results, samples: Samples, machine: &str) -> String {
         asked = asked::asked(results),
         scores = table::scores(results),
         boards = table::boards(&results.boards),
+        factor_reads = table::factor_reads(&results.boards),
         builds = table::builds(&results.boards),
         readings = table::readings(&results.readings),
         counts = table::counts(&results.counts),
+        factor_counts = table::factor_counts(&results.counts),
     )
 }

@@ -1,8 +1,11 @@
 //! The proved functions on slices.
 
-use oracle::map::{Origin, Play, Settings};
+use oracle::{
+    given::Factors,
+    map::{Origin, Play, Settings},
+};
 use popejoanplum::sys;
-pub use popejoanplum::sys::{MapAnswer, MapInfo, PlayAnswer, Status};
+pub use popejoanplum::sys::{BreaksAnswer, MapAnswer, MapInfo, PlayAnswer, Status};
 
 pub const GOOD: Status = Status {
     status: 0,
@@ -78,6 +81,38 @@ pub fn read(
             breaks.len(),
             play,
         )
+    }
+}
+
+pub fn read_breaks(
+    board: &[u64],
+    starts: &[f64],
+    count: usize,
+    settings: sys::Settings,
+    breaks: &[f64],
+    play: sys::Play,
+    factors: sys::SliderFactors,
+) -> BreaksAnswer {
+    unsafe {
+        sys::pjp_read_breaks(
+            board.as_ptr(),
+            board.len(),
+            starts.as_ptr(),
+            starts.len(),
+            count,
+            settings,
+            breaks.as_ptr(),
+            breaks.len(),
+            play,
+            factors,
+        )
+    }
+}
+
+pub fn factors(factors: Factors) -> sys::SliderFactors {
+    sys::SliderFactors {
+        aim: factors.aim,
+        speed: factors.speed,
     }
 }
 

@@ -51,6 +51,10 @@ pub fn example() -> Results {
         ours,
         plain: 0.9 * ours,
     };
+    let factors = |ours, times| boards::FactorTimes {
+        alone: pair(ours),
+        with: pair(times * ours),
+    };
     let board = |(size, part): (usize, f64)| BoardTimes {
         size,
         build: pair(500_000.0 * part),
@@ -58,6 +62,8 @@ pub fn example() -> Results {
         read_all: pair(150.0),
         read_spread: pair(300.0),
         read_nearly: pair(500.0),
+        factors_all: factors(140.0, 1.5),
+        factors_spread: factors(200.0, 1.25),
         read_map: 350_000.0 * part,
         score_map: 55_000.0 * part,
         walk: 450_000.0 * part,

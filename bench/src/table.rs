@@ -1,7 +1,7 @@
 //! The results as Markdown tables.
 
 use crate::{
-    boards::{BoardTimes, Pair},
+    boards::{BoardTimes, FactorTimes, Pair},
     instructions::Counts,
     number::{significant, time, whole},
     reading::ReadingTimes,
@@ -97,6 +97,48 @@ pub fn boards(rows: &[BoardTimes]) -> String {
     )
 }
 
+/// A kind of reads with factors, and where its times stand.
+type FactorRead = (&'static str, fn(&BoardTimes) -> FactorTimes);
+
+const FACTOR_READS: [FactorRead; 2] = [
+    ("all passed", |row| row.factors_all),
+    ("spread", |row| row.factors_spread),
+];
+
+pub fn factor_reads(rows: &[BoardTimes]) -> String {
+    let row = |name: &str, size: usize, times: FactorTimes| {
+        let FactorTimes { alone, with } = times;
+        vec![
+            name.to_owned(),
+            whole(size as u64),
+            time(alone.ours),
+            time(with.ours),
+            significant(with.ours / alone.ours),
+            time(alone.plain),
+            time(with.plain),
+            significant(with.plain / alone.plain),
+        ]
+    };
+    let kind = |(name, times): FactorRead| {
+        rows.iter()
+            .map(move |board| row(name, board.size, times(board)))
+    };
+    markdown(
+        1,
+        &[
+            "read",
+            "objects",
+            "ours",
+            "with factors",
+            "with / without",
+            "plain Rust",
+            "with factors",
+            "with / without",
+        ],
+        FACTOR_READS.into_iter().flat_map(kind).collect(),
+    )
+}
+
 pub fn builds(rows: &[BoardTimes]) -> String {
     let row = |row: &BoardTimes| {
         vec![
@@ -174,8 +216,30 @@ pub fn counts(counts: &Result<Vec<Counts>, String>) -> String {
         "walk / read",
         "walk / edit",
     ];
+    counted(&head, counts, row)
+}
+
+pub fn factor_counts(counts: &Result<Vec<Counts>, String>) -> String {
+    let row = |row: &Counts| {
+        vec![
+            whole(row.size as u64),
+            significant(row.alone),
+            significant(row.with_factors),
+            significant(row.with_factors / row.alone),
+        ]
+    };
+    let head = ["objects", "our read", "with factors", "with / without"];
+    counted(&head, counts, row)
+}
+
+/// The table of what was counted, or why nothing was.
+fn counted(
+    head: &[&str],
+    counts: &Result<Vec<Counts>, String>,
+    row: impl Fn(&Counts) -> Vec<String>,
+) -> String {
     match counts {
-        Ok(rows) => markdown(0, &head, rows.iter().map(row).collect()),
+        Ok(rows) => markdown(0, head, rows.iter().map(row).collect()),
         Err(why) => format!("Not counted: {}\n", why.trim()),
     }
 }

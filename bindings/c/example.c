@@ -61,6 +61,14 @@ static void print_answer(const char *call, pjp_play_answer answer) {
     printf("effective %016" PRIx64 "\n", bits(e->effective));
 }
 
+/* Of a play with factors: what it has beyond the play without them. */
+static void print_breaks(const char *call, pjp_breaks_answer answer) {
+    printf("%s: status %d, offset %zu\n", call, answer.status, answer.offset);
+    if (answer.status == PJP_GOOD)
+        printf("  effective %016" PRIx64 ", breaks aim %016" PRIx64 ", speed %016" PRIx64 "\n", bits(answer.estimates.effective),
+               bits(answer.slider_breaks.aim), bits(answer.slider_breaks.speed));
+}
+
 /* Three 300s at full combo, from stable. */
 static pjp_play full_combo(void) {
     pjp_play play;
@@ -94,6 +102,7 @@ int main(void) {
     uint8_t spinner[18];
     pjp_map_info map;
     pjp_play play = full_combo();
+    pjp_slider_factors factors = {0.5, 2};
 
     put_map();
     map = pjp_read_map(file, (size_t)(end - file));
@@ -107,6 +116,7 @@ int main(void) {
     put_spinner(spinner, 10000, 1400);
     print_status("edit place 2", pjp_edit(board, WORDS, starts, OBJECTS, OBJECTS, 2, spinner, sizeof spinner));
     print_answer("one miss", pjp_read(board, WORDS, starts, OBJECTS, OBJECTS, map.settings, NULL, 0, one_miss()));
+    print_breaks("its slider breaks", pjp_read_breaks(board, WORDS, starts, OBJECTS, OBJECTS, map.settings, NULL, 0, one_miss(), factors));
 
     memcpy(before, board, sizeof board);
     print_status("edit place 3", pjp_edit(board, WORDS, starts, OBJECTS, OBJECTS, 3, spinner, sizeof spinner));
@@ -115,5 +125,8 @@ int main(void) {
     print_answer("combo above the map's", pjp_read(board, WORDS, starts, OBJECTS, OBJECTS, map.settings, NULL, 0, play));
     play.origin = 3;
     print_answer("origin 3", pjp_score_play(file, (size_t)(end - file), play));
+    factors.speed = 10.5;
+    print_breaks("origin 3, factor 10.5", pjp_score_play_breaks(file, (size_t)(end - file), play, factors));
+    print_breaks("factor 10.5", pjp_score_play_breaks(file, (size_t)(end - file), full_combo(), factors));
     return 0;
 }

@@ -1,6 +1,6 @@
 /* lists SEED: long lists of calls on a board, as document 01's section on them has it. Beside the board the program keeps the map as records. After
- * each call all lent memory is held to a fresh build of the map's file, and each read to the score of its play on that file: no other answers are
- * needed, so that lists may be long and maps large. The first difference ends the run. */
+ * each call all lent memory is held to a fresh build of the map's file, and each read, without factors and with them, to the score of its play on
+ * that file: no other answers are needed, so that lists may be long and maps large. The first difference ends the run. */
 #include "popejoanplum.h"
 #include <inttypes.h>
 #include <math.h>
@@ -45,7 +45,7 @@ static pjp_settings settings;
 static double times[MAX_TIMES + 3]; /* the last but one begins a break too many, the last is out of range */
 static object objects[PJP_MAX_OBJECTS];
 static memory board, fresh;
-static unsigned edits[256], reads[256], other_reads[256];
+static unsigned edits[256], reads[256], factor_reads[256], other_reads[256], broken; /* the last: reads whose play has slider breaks */
 
 static void hold(int is_so, const char *claim, size_t number) {
     if (is_so)
@@ -322,7 +322,36 @@ static pjp_play draw_play(void) {
     return p;
 }
 
-/* ---- reads. Floats are compared by their bits, but two nested scores that are not a number are the same; no other value may be none. */
+/* ---- factors: the ends of their range, the negative zero, some below 1, and a few out of range */
+typedef struct {
+    pjp_play play;
+    pjp_slider_factors factors;
+} given;
+
+static double draw_factor(void) {
+    static const double EDGES[] = {0.0, -0.0, 10.0}, BAD[] = {NAN, INFINITY, -INFINITY, -4.9406564584124654e-324, 10.000000000000002};
+    unsigned sort = below(32);
+    if (sort < 3)
+        return EDGES[sort];
+    if (sort < 5)
+        return BAD[below(5)];
+    return below(10241) / (sort < 16 ? 10240.0 : 1024.0);
+}
+
+static given draw_given(void) {
+    given g;
+    g.play = draw_play();
+    g.factors.aim = draw_factor();
+    g.factors.speed = draw_factor();
+    return g;
+}
+
+/* ---- answers. Floats are compared by their bits, but two nested scores that are not a number are the same; no other value may be none. */
+typedef struct {
+    pjp_play_answer alone;
+    pjp_breaks_answer with; /* the same call with factors */
+} answers;
+
 static int is_same(pjp_play_answer a, pjp_play_answer b) {
     double x = a.attributes.nested_score_per_object, y = b.attributes.nested_score_per_object;
     if (x != x && y != y)
@@ -332,17 +361,78 @@ static int is_same(pjp_play_answer a, pjp_play_answer b) {
            a.estimates.has_score_based == b.estimates.has_score_based;
 }
 
-static pjp_play_answer read_board(size_t lent, size_t count, pjp_settings s, const double *breaks, size_t length, pjp_play p) {
-    return pjp_read(board.words, lent, board.starts, now.objects + MORE, count, s, breaks, length, p);
+static pjp_play_answer without_breaks(pjp_breaks_answer a) {
+    pjp_play_answer front;
+    front.status = a.status;
+    front.offset = a.offset;
+    front.attributes = a.attributes;
+    front.estimates = a.estimates;
+    return front;
+}
+
+static int is_same_with(pjp_breaks_answer a, pjp_breaks_answer b) {
+    return is_same(without_breaks(a), without_breaks(b)) && !memcmp(&a.slider_breaks, &b.slider_breaks, sizeof a.slider_breaks);
+}
+
+static int is_factor(double value) {
+    return value >= 0 && value <= 10;
+}
+
+/* Document 02: what a call with factors gets by what it gets without them. 14 is checked last. */
+static pjp_play_answer due_with(pjp_play_answer alone, pjp_slider_factors f) {
+    if (alone.status != PJP_GOOD || (is_factor(f.aim) && is_factor(f.speed)))
+        return alone;
+    memset(&alone, 0, sizeof alone);
+    alone.status = PJP_FACTOR;
+    return alone;
+}
+
+/* From 0 to n100, or to 0 where at most one miss is effective; the positive 0 without an effective miss, with origin 1 and without a 100. */
+static int are_breaks(pjp_play p, pjp_breaks_answer a) {
+    static const pjp_slider_breaks NONE = {0, 0};
+    pjp_slider_breaks b = a.slider_breaks;
+    double most = a.estimates.effective > 1 ? p.n100 : 0;
+    if (a.status != PJP_GOOD || a.estimates.effective == 0 || p.origin == PJP_WITH_SLIDER_ACC || p.n100 == 0)
+        return !memcmp(&b, &NONE, sizeof NONE);
+    return b.aim >= 0 && b.aim <= most && b.speed >= 0 && b.speed <= most;
+}
+
+static answers hold_factors(given g, answers a) {
+    pjp_play_answer due = due_with(a.alone, g.factors);
+    hold(is_same(without_breaks(a.with), due), "with factors a call gets all that it gets without them, or 14, number", due.status);
+    hold(are_breaks(g.play, a.with), "slider breaks are within their range, number", a.with.status);
+    return a;
+}
+
+/* ---- reads */
+static answers score_file(size_t length, given g) {
+    answers a;
+    a.alone = pjp_score_play(file, length, g.play);
+    a.with = pjp_score_play_breaks(file, length, g.play, g.factors);
+    return hold_factors(g, a);
+}
+
+static answers read_board(size_t lent, size_t count, pjp_settings s, const double *breaks, size_t length, given g) {
+    answers a;
+    a.alone = pjp_read(board.words, lent, board.starts, now.objects + MORE, count, s, breaks, length, g.play);
+    a.with = pjp_read_breaks(board.words, lent, board.starts, now.objects + MORE, count, s, breaks, length, g.play, g.factors);
+    return hold_factors(g, a);
 }
 
 /* A read with these settings and the first times as breaks gets what the play gets beside the file with them. */
-static uint8_t hold_read(pjp_settings s, size_t count) {
-    pjp_play p = draw_play();
-    pjp_play_answer due = pjp_score_play(file, put_file(s, count), p);
-    hold(is_same(read_board(words + MORE, now.objects, s, times, count, p), due), "a read gets what the play gets on the map's file, number",
-         due.status);
-    return due.status;
+static answers hold_read(pjp_settings s, size_t count) {
+    given g = draw_given();
+    answers due = score_file(put_file(s, count), g), found = read_board(words + MORE, now.objects, s, times, count, g);
+    hold(is_same(found.alone, due.alone), "a read gets what the play gets on the map's file, number", due.alone.status);
+    hold(is_same_with(found.with, due.with), "a read with factors gets what the play gets with them on the map's file, number", due.with.status);
+    return found;
+}
+
+static void read_turn(void) {
+    answers found = hold_read(settings, now.times);
+    reads[found.alone.status]++;
+    factor_reads[found.with.status]++;
+    broken += found.with.slider_breaks.aim > 0 && found.with.slider_breaks.speed > 0;
 }
 
 static pjp_settings draw_bad_settings(void) {
@@ -355,25 +445,25 @@ static pjp_settings draw_bad_settings(void) {
 
 /* With other settings, other breaks, fewer objects (document 01 says only that nothing changes), too many of them, too many breaks, too few words, a
  * setting out of range, a break without its end, a time out of range. */
-static uint8_t read_other(unsigned sort) {
+static answers read_other(unsigned sort) {
     size_t all = words + MORE, count = now.objects, own = now.times;
-    pjp_play p = draw_play();
+    given g = draw_given();
     switch (sort) {
     case 0: return hold_read(draw_settings(), own);
     case 1: return hold_read(settings, 2 * up_to(PJP_MAX_BREAKS));
-    case 2: return read_board(all, below(now.objects), settings, times, own, p).status;
-    case 3: return read_board(all, PJP_MAX_OBJECTS + 1, settings, times, own, p).status;
-    case 4: return read_board(all, count, settings, times, MAX_TIMES + 1 + below(2), p).status;
-    case 5: return read_board(words - 1, count, settings, times, own, p).status;
-    case 6: return read_board(all, count, draw_bad_settings(), times, own, p).status;
-    case 7: return read_board(all, count, settings, times, 2 * below(PJP_MAX_BREAKS) + 1, p).status;
-    default: return read_board(all, count, settings, times + MAX_TIMES + 1, 2, p).status;
+    case 2: return read_board(all, below(now.objects), settings, times, own, g);
+    case 3: return read_board(all, PJP_MAX_OBJECTS + 1, settings, times, own, g);
+    case 4: return read_board(all, count, settings, times, MAX_TIMES + 1 + below(2), g);
+    case 5: return read_board(words - 1, count, settings, times, own, g);
+    case 6: return read_board(all, count, draw_bad_settings(), times, own, g);
+    case 7: return read_board(all, count, settings, times, 2 * below(PJP_MAX_BREAKS) + 1, g);
+    default: return read_board(all, count, settings, times + MAX_TIMES + 1, 2, g);
     }
 }
 
 static void other_turn(unsigned sort) {
     static const uint8_t DUE[] = {0, 0, 0, PJP_COUNT, PJP_COUNT, PJP_ROOM, PJP_RANGE, PJP_RANGE, PJP_RANGE};
-    uint8_t found = read_other(sort);
+    uint8_t found = read_other(sort).alone.status;
     hold(sort < 3 || found == DUE[sort], "a read of another map gets", DUE[sort]);
     other_reads[found]++;
 }
@@ -383,7 +473,7 @@ static void take_turn(void) {
     unsigned round = turn / 8;
     switch (turn % 8) {
     case 2:
-    case 6: reads[hold_read(settings, now.times)]++; break;
+    case 6: read_turn(); break;
     case 4: edit_turn(1 + round % (FAULTS - 1)); break;
     case 7: other_turn(round % 9); break;
     default: edit_turn(NO_FAULT);
@@ -433,6 +523,7 @@ static void print_counts(const char *calls, const unsigned *counts, const uint8_
 int main(int argc, char **argv) {
     static const uint8_t OF_EDITS[] = {PJP_CUT, PJP_MARK, PJP_RANGE, PJP_NESTED, PJP_COUNT, PJP_BONUS, PJP_ROOM, PJP_PLACE, 0};
     static const uint8_t OF_READS[] = {PJP_PLAY_FIELD, PJP_PLAY_EXCEEDS, PJP_PLAY_COMBO, 0}, OF_OTHERS[] = {PJP_RANGE, PJP_COUNT, PJP_ROOM, 0};
+    static const uint8_t OF_FACTOR_READS[] = {PJP_PLAY_FIELD, PJP_PLAY_EXCEEDS, PJP_PLAY_COMBO, PJP_FACTOR, 0};
     char *end = NULL;
     seed = argc == 2 ? strtoull(argv[1], &end, 10) : 0;
     if (!end || end == argv[1] || *end) {
@@ -444,6 +535,9 @@ int main(int argc, char **argv) {
     printf("lists %" PRIu64 ": %u lists of calls are as fresh builds and scores have it\n", seed, (unsigned)LISTS);
     print_counts("edits", edits, OF_EDITS);
     print_counts("reads", reads, OF_READS);
+    print_counts("reads with factors", factor_reads, OF_FACTOR_READS);
+    hold(broken > 0, "some plays have slider breaks, not", broken);
+    printf("  slider breaks: in %u of them\n", broken);
     print_counts("reads of another map", other_reads, OF_OTHERS);
     return 0;
 }

@@ -42,6 +42,7 @@ extern "C" {
 #define PJP_ROOM 11         /* too few words for the board, or too few numbers in the start table */
 #define PJP_PLACE 12        /* the edited place is not below the object count */
 #define PJP_BOARD 13        /* a word of the board or a start that the call reads is out of its limits: no build made them */
+#define PJP_FACTOR 14       /* a factor is not from 0 to 10, or not finite; only the two calls with factors */
 #define PJP_NO_PLAY 255     /* only pjp_score_play_at: the file is accepted and has no play at that index */
 
 /* ---- a play's origin */
@@ -123,6 +124,19 @@ typedef struct {
     uint8_t has_score_based; /* 1 if score_based is there: a score, an origin other than 1, and at least one judgement */
 } pjp_estimates;
 
+/* The two top-weighted slider factors, of aim and of speed: each from 0 to 10. They are no part of a map file and come with the call. */
+typedef struct {
+    double aim;
+    double speed;
+} pjp_slider_factors;
+
+/* How many sliders a play broke, as estimated from the effective misses by each factor: from 0 to n100 (slider_breaks/proofs/Range), and 0 where
+ * effective is at most 1, with origin 1 and without a 100. It may be not a number where a board that no build made has judgements and no combo. */
+typedef struct {
+    double aim;
+    double speed;
+} pjp_slider_breaks;
+
 /* What a map file holds. Where the status is not 0 every value is 0. */
 typedef struct {
     uint8_t status;
@@ -147,6 +161,15 @@ typedef struct {
     pjp_estimates estimates;
 } pjp_play_answer;
 
+/* The score of a play, as pjp_play_answer has it, and its slider breaks. Where the status is not 0 every value is 0. */
+typedef struct {
+    uint8_t status;
+    size_t offset;
+    pjp_attributes attributes;
+    pjp_estimates estimates;
+    pjp_slider_breaks slider_breaks;
+} pjp_breaks_answer;
+
 /* How many words a board for that many objects has: 26 times the smallest power of two that is not below it, 26 at least. 0 above PJP_MAX_OBJECTS,
  * where no map is accepted. */
 size_t pjp_board_words(size_t count);
@@ -155,12 +178,15 @@ size_t pjp_board_words(size_t count);
  * (PJP_PLAY_EXCEEDS, PJP_PLAY_COMBO) is checked by the calls below. */
 pjp_map_info pjp_read_map(const uint8_t *file, size_t length);
 
-/* The score of all objects of a map file. Refuses a file that breaks a rule, PJP_CUT to PJP_PLAY_COMBO, its plays included; so do the next three. */
+/* The score of all objects of a map file. Refuses a file that breaks a rule, PJP_CUT to PJP_PLAY_COMBO, its plays included; so do the next four. */
 pjp_map_answer pjp_score_map(const uint8_t *file, size_t length);
 
 /* The score of a play that is given beside a map file. Behind the whole file, with offset 0: PJP_PLAY_FIELD if a field of the play is out of range
  * (flags, clock rate, origin, has_score, a score without has_score), then PJP_PLAY_EXCEEDS, then PJP_PLAY_COMBO. */
 pjp_play_answer pjp_score_play(const uint8_t *file, size_t length, pjp_play play);
+
+/* What pjp_score_play gives, and the slider breaks by two factors. Refuses what pjp_score_play refuses, then with offset 0 PJP_FACTOR. */
+pjp_breaks_answer pjp_score_play_breaks(const uint8_t *file, size_t length, pjp_play play, pjp_slider_factors factors);
 
 /* The score of the play at an index of a map file, from 0 in the order of its PL records; PJP_NO_PLAY if it has fewer. */
 pjp_play_answer pjp_score_play_at(const uint8_t *file, size_t length, uint64_t index);
@@ -193,6 +219,19 @@ pjp_play_answer pjp_read(
     const double *breaks,
     size_t times,
     pjp_play play);
+
+/* What pjp_read gives, and the slider breaks by two factors. Refuses what pjp_read refuses, then PJP_FACTOR. It writes nothing. */
+pjp_breaks_answer pjp_read_breaks(
+    const uint64_t *board,
+    size_t words,
+    const double *starts,
+    size_t numbers,
+    size_t count,
+    pjp_settings settings,
+    const double *breaks,
+    size_t times,
+    pjp_play play,
+    pjp_slider_factors factors);
 
 /* Copies the start and the end of each break of an ACCEPTED map file to `times`, which has room for twice `breaks`, the number that pjp_read_map told
  * of that file: the header takes 14 bytes, each break 18, of which 2 are its mark. Of another file it may read past the end. It is not of the archive

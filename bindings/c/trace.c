@@ -1,6 +1,7 @@
-/* trace files|calls: answers a stream of map files, or of lists of calls on a board, through the header, as `oracle trace` and `oracle trace-calls`
- * answer it from the Rust; oracle/src/calls.rs has the format of a call. `test` holds it to stored streams in ../../vectors, `.ci/compare` to fresh
- * ones. So every function and every field meets values that this engine did not make. */
+/* trace files|breaks|calls: answers a stream of map files, of plays with factors beside map files, or of lists of calls on a board, through the header,
+ * as `oracle trace`, `oracle trace-breaks` and `oracle trace-calls` answer it from the Rust; oracle/src/breaks.rs and oracle/src/calls.rs have the
+ * formats. `test` holds it to stored streams in ../../vectors, `.ci/compare` to fresh ones. So every function and every field meets values that this
+ * engine did not make. */
 #include "popejoanplum.h"
 #include <inttypes.h>
 #include <stdio.h>
@@ -109,17 +110,77 @@ static void print_estimates(unsigned index, const pjp_estimates *e) {
     printf("\n");
 }
 
-/* A refusal has no value; attributes have no padding. */
-static void print_refused(uint8_t status, size_t offset, const pjp_attributes *a) {
-    pjp_attributes none;
-    memset(&none, 0, sizeof none);
-    hold(!a || !memcmp(a, &none, sizeof none), "a refusal has no attributes");
-    printf("refused %d at %zu\n", status, offset);
+static void print_breaks(unsigned index, const pjp_slider_breaks *b) {
+    printf("breaks %u", index);
+    print_float(b->aim);
+    print_float(b->speed);
+    printf("\n");
+}
+
+/* Attributes have no padding. */
+static int same_attributes(const pjp_attributes *a, const pjp_attributes *b) {
+    return !memcmp(a, b, sizeof *a);
 }
 
 static int same_estimates(pjp_estimates a, pjp_estimates b) {
     return bits(a.accuracy) == bits(b.accuracy) && bits(a.combo_based) == bits(b.combo_based) && bits(a.score_based) == bits(b.score_based) &&
            bits(a.effective) == bits(b.effective) && a.has_score_based == b.has_score_based;
+}
+
+static void print_refused(uint8_t status, size_t offset) {
+    printf("refused %d at %zu\n", status, offset);
+}
+
+/* A refusal has no value. */
+static void hold_no_attributes(const pjp_attributes *a) {
+    static pjp_attributes none;
+    hold(same_attributes(a, &none), "a refusal has no attributes");
+}
+
+static void hold_play(const pjp_play_answer *answer) {
+    static pjp_estimates none;
+    if (answer->status == PJP_GOOD)
+        return;
+    hold_no_attributes(&answer->attributes);
+    hold(same_estimates(answer->estimates, none), "a refusal has no estimates");
+}
+
+static void print_play(unsigned index, const pjp_play_answer *answer) {
+    if (answer->status != PJP_GOOD) {
+        print_refused(answer->status, answer->offset);
+        return;
+    }
+    print_attributes(index, &answer->attributes);
+    print_estimates(index, &answer->estimates);
+}
+
+/* What a call with factors answers but for its breaks. */
+static pjp_play_answer play_answer(const pjp_breaks_answer *with) {
+    pjp_play_answer answer = {with->status, with->offset, with->attributes, with->estimates};
+    return answer;
+}
+
+/* A call with factors gives what the call without them gives, then 14, else breaks behind it. */
+static void hold_breaks(const pjp_breaks_answer *with, const pjp_play_answer *without) {
+    pjp_play_answer answer = play_answer(with);
+    hold_play(without);
+    hold_play(&answer);
+    if (with->status == PJP_FACTOR)
+        hold(without->status == PJP_GOOD && with->offset == 0, "factors are checked last, and point at no record");
+    else
+        hold(with->status == without->status && with->offset == without->offset, "a call is refused alike with factors and without");
+    if (with->status == PJP_GOOD)
+        hold(same_attributes(&with->attributes, &without->attributes) && same_estimates(with->estimates, without->estimates),
+             "factors change no other value");
+    else
+        hold(bits(with->slider_breaks.aim) == 0 && bits(with->slider_breaks.speed) == 0, "a refusal has no breaks");
+}
+
+static void print_play_and_breaks(unsigned index, const pjp_breaks_answer *with) {
+    pjp_play_answer answer = play_answer(with);
+    print_play(index, &answer);
+    if (with->status == PJP_GOOD)
+        print_breaks(index, &with->slider_breaks);
 }
 
 /* ---- files: the listing, then the attributes of each play. The plays are a file's last records. */
@@ -131,7 +192,8 @@ static void trace_file(void) {
     if (map.status != PJP_GOOD) {
         hold(map.status == PJP_PLAY_EXCEEDS || map.status == PJP_PLAY_COMBO || (info.status == map.status && info.offset == map.offset),
              "a file is refused alike by read_map and score_map");
-        print_refused(map.status, map.offset, &map.attributes);
+        hold_no_attributes(&map.attributes);
+        print_refused(map.status, map.offset);
         return;
     }
     hold(info.status == PJP_GOOD && info.objects == map.attributes.object_count, "read_map counts the objects");
@@ -143,8 +205,48 @@ static void trace_file(void) {
         listed = pjp_score_play_at(frame, frame_length, i);
         given = pjp_score_play(frame, frame_length, play_of(frame + frame_length - (plays - i) * PLAY_RECORD));
         hold(given.status == PJP_GOOD && same_estimates(given.estimates, listed.estimates), "a play scores alike in the file and beside it");
-        hold(!memcmp(&given.attributes, &listed.attributes, sizeof given.attributes), "and has the same attributes");
+        hold(same_attributes(&given.attributes, &listed.attributes), "and has the same attributes");
         print_attributes(i, &given.attributes);
+    }
+}
+
+/* ---- what a play with factors and a read have: the play's flags and rate stand beside its record. */
+static pjp_play take_play(const uint8_t **at) {
+    uint16_t flags;
+    double rate;
+    pjp_play play;
+    take(at, &flags, 2);
+    take(at, &rate, 8);
+    play = play_of(*at);
+    play.flags = flags;
+    play.clock_rate = rate;
+    *at += PLAY_RECORD;
+    return play;
+}
+
+static pjp_slider_factors take_factors(const uint8_t **at) {
+    pjp_slider_factors factors;
+    take(at, &factors.aim, 8);
+    take(at, &factors.speed, 8);
+    return factors;
+}
+
+/* ---- breaks: plays with factors beside the map file that is behind them. */
+static void trace_breaks(void) {
+    enum { GIVEN = 2 * 8 + 2 + 8 + PLAY_RECORD };
+    const uint8_t *at = frame, *file;
+    uint32_t count, i;
+    take(&at, &count, 4);
+    hold(count <= (size_t)(frame + frame_length - at) / GIVEN, "a frame has all its plays");
+    file = at + count * GIVEN;
+    for (i = 0; i < count; i++) {
+        pjp_slider_factors factors = take_factors(&at);
+        pjp_play play = take_play(&at);
+        size_t length = (size_t)(frame + frame_length - file);
+        pjp_breaks_answer with = pjp_score_play_breaks(file, length, play, factors);
+        pjp_play_answer without = pjp_score_play(file, length, play);
+        hold_breaks(&with, &without);
+        print_play_and_breaks(i, &with);
     }
 }
 
@@ -170,7 +272,7 @@ static void build(const uint8_t *at) {
     calls = 0;
     answer = pjp_build(at, (size_t)(frame + frame_length - at), board, words, starts, numbers);
     if (answer.status != PJP_GOOD)
-        print_refused(answer.status, answer.offset, NULL);
+        print_refused(answer.status, answer.offset);
     else
         printf("built\n");
 }
@@ -182,47 +284,57 @@ static void edit(const uint8_t *at) {
     take(&at, &place, 4);
     answer = pjp_edit(board, words, starts, numbers, count, place, at, (size_t)(frame + frame_length - at));
     if (answer.status != PJP_GOOD)
-        print_refused(answer.status, answer.offset, NULL);
+        print_refused(answer.status, answer.offset);
     else
         printf("done\n");
 }
 
-/* A read with the map's own settings and breaks finds them as the header's functions gave them. */
-static void read_board(const uint8_t *at, int is_own, unsigned index) {
-    static double breaks[MAX_TIMES + 64]; /* some reads are given too many */
+/* The arguments of a read behind the board and its starts. */
+typedef struct {
     uint32_t count;
-    uint16_t flags;
-    double rate;
-    size_t length;
     pjp_settings settings;
     pjp_play play;
-    pjp_play_answer answer;
-    take(&at, &count, 4);
-    take(&at, &settings.hp, 4);
-    take(&at, &settings.od, 4);
-    take(&at, &settings.cs, 4);
-    take(&at, &flags, 2);
-    take(&at, &rate, 8);
-    play = play_of(at);
-    play.flags = flags;
-    play.clock_rate = rate;
-    at += PLAY_RECORD;
+    size_t times;
+    double breaks[MAX_TIMES + 64]; /* some reads are given too many */
+} read_arguments;
+
+/* A read with the map's own settings and breaks finds them as the header's functions gave them. */
+static void take_read(const uint8_t *at, int is_own, read_arguments *r) {
+    size_t length;
+    take(&at, &r->count, 4);
+    take(&at, &r->settings.hp, 4);
+    take(&at, &r->settings.od, 4);
+    take(&at, &r->settings.cs, 4);
+    r->play = take_play(&at);
     length = (size_t)(frame + frame_length - at);
-    hold(length <= sizeof breaks && length % 8 == 0, "breaks have room");
-    memcpy(breaks, at, length);
+    hold(length <= sizeof r->breaks && length % 8 == 0, "breaks have room");
+    memcpy(r->breaks, at, length);
+    r->times = length / 8;
     if (is_own) {
-        hold(!memcmp(&settings, &map.settings, sizeof settings), "read_map tells the settings");
-        hold(count == map.objects && length == 16 * map.breaks && !memcmp(breaks, times, length), "and the breaks");
+        hold(!memcmp(&r->settings, &map.settings, sizeof r->settings), "read_map tells the settings");
+        hold(r->count == map.objects && length == 16 * map.breaks && !memcmp(r->breaks, times, length), "and the breaks");
     }
-    answer = pjp_read(board, words, starts, numbers, count, settings, breaks, length / 8, play);
-    if (!is_own) {
+}
+
+static void read_board(const uint8_t *at, int is_own, int has_factors, unsigned index) {
+    static read_arguments r;
+    pjp_slider_factors factors = {0, 0};
+    pjp_play_answer answer;
+    if (has_factors)
+        factors = take_factors(&at);
+    take_read(at, is_own, &r);
+    answer = pjp_read(board, words, starts, numbers, r.count, r.settings, r.breaks, r.times, r.play);
+    hold_play(&answer);
+    if (has_factors) {
+        pjp_breaks_answer with = pjp_read_breaks(board, words, starts, numbers, r.count, r.settings, r.breaks, r.times, r.play, factors);
+        hold_breaks(&with, &answer);
+        if (is_own)
+            print_play_and_breaks(index, &with);
+    } else if (is_own) {
+        print_play(index, &answer);
+    }
+    if (!is_own)
         printf("other\n");
-    } else if (answer.status != PJP_GOOD) {
-        print_refused(answer.status, answer.offset, &answer.attributes);
-    } else {
-        print_attributes(index, &answer.attributes);
-        print_estimates(index, &answer.estimates);
-    }
 }
 
 static uint64_t mixed(uint64_t digest, uint64_t number) {
@@ -245,7 +357,7 @@ static void print_board(void) {
 static void trace_call(void) {
     uint8_t kind = frame[0];
     unsigned index = calls++;
-    hold(frame_length > 0 && kind <= 4, "a frame has a call");
+    hold(frame_length > 0 && kind <= 6, "a frame has a call");
     if (kind == 0)
         build(frame + 1);
     else if (kind == 1)
@@ -253,17 +365,15 @@ static void trace_call(void) {
     else if (kind == 4)
         print_board();
     else
-        read_board(frame + 1, kind == 2, index);
+        read_board(frame + 1, kind == 2 || kind == 5, kind >= 5, index);
 }
 
 int main(int argc, char **argv) {
-    int is_files = argc == 2 && !strcmp(argv[1], "files");
-    hold(is_files || (argc == 2 && !strcmp(argv[1], "calls")), "the argument is files or calls");
+    const char *what = argc == 2 ? argv[1] : "";
+    void (*trace)(void) = !strcmp(what, "files") ? trace_file : !strcmp(what, "breaks") ? trace_breaks : trace_call;
+    hold(trace != trace_call || !strcmp(what, "calls"), "the argument is files, breaks or calls");
     while (read_frame())
-        if (is_files)
-            trace_file();
-        else
-            trace_call();
+        trace();
     hold(!fflush(stdout) && !ferror(stdout), "the answers are written");
     return 0;
 }

@@ -1,23 +1,22 @@
 //! Makes the modules of the crate out of the original text.
 //!
-//! Nothing of that text is changed but for the two substitutions below. Some
+//! Nothing of that text is changed but for the three substitutions below. Some
 //! files lean on absent ones; of these, whole items are cut out by markers.
 
 use std::path::{Path, PathBuf};
 
-use super::substitute::{cut, expect, replace_once};
+use super::substitute::{cut, expect, replace, replace_once};
 
 /// The folder of the original as seen from the repository's root.
 const DEFAULT_FOLDER: &str = "../shared/docs/src";
 
 /// Files that compile as they are.
-pub const WHOLE: [&str; 9] = [
+pub const WHOLE: [&str; 8] = [
     "any/hit_result.rs",
     "model/beatmap/attributes/ext.rs",
     "osu/attributes.rs",
     "osu/score_state.rs",
     "osu/utils/legacy_score.rs",
-    "util/difficulty.rs",
     "util/float_ext.rs",
     "util/hint.rs",
     "util/ruleset_ext.rs",
@@ -28,11 +27,17 @@ const MISS_CALCULATOR: &str = "osu/legacy_score_miss_calc.rs";
 const PERFORMANCE: &str = "osu/performance/calculator.rs";
 const OBJECT: &str = "osu/object.rs";
 const HIT_OBJECT: &str = "model/hit_object.rs";
+const DIFFICULTY: &str = "util/difficulty.rs";
 
 /// The one power of the original, and document 01's stand-in for it.
 const POWER: &str = "(full_combo_threshold / f64::from(state.max_combo).max(1.0)).powf(2.5)";
-const STAND_IN: &str = "crate::stand_in::power_five_halves(\
+const POWER_STAND_IN: &str = "crate::stand_in::power_five_halves(\
     full_combo_threshold / f64::from(state.max_combo).max(1.0))";
+
+/// The exponentials of the curves, and document 02's stand-in for each.
+const EXPONENTIAL: &str = "f64::exp(";
+const EXPONENTIALS: usize = 4;
+const EXPONENTIAL_STAND_IN: &str = "crate::stand_in::exp(";
 
 /// Added below the simulator's text: its sum is private and not in its result.
 const SIMULATOR_ACCESS: &str = "
@@ -68,6 +73,15 @@ impl OsuLegacyScoreMissCalculator<'_> {
                 remaining, relevant, multiplier,
             ),
         }
+    }
+}
+";
+
+/// Added below the calculator's text: its estimate is private.
+const PERFORMANCE_ACCESS: &str = "
+impl OsuPerformanceCalculator<'_> {
+    pub fn estimated_slider_breaks(&self, factor: f64, effective_miss_count: f64) -> f64 {
+        self.calculate_estimated_slider_breaks(factor, effective_miss_count)
     }
 }
 ";
@@ -120,7 +134,14 @@ pub fn source_folder(manifest_folder: &Path, given: Option<&str>) -> PathBuf {
 /// The paths of all files that are read.
 pub fn sources() -> Vec<&'static str> {
     let mut paths = WHOLE.to_vec();
-    paths.extend([SIMULATOR, MISS_CALCULATOR, PERFORMANCE, OBJECT, HIT_OBJECT]);
+    paths.extend([
+        SIMULATOR,
+        MISS_CALCULATOR,
+        PERFORMANCE,
+        OBJECT,
+        HIT_OBJECT,
+        DIFFICULTY,
+    ]);
     paths
 }
 
@@ -140,6 +161,7 @@ pub fn assemble(read: &dyn Fn(&str) -> Result<String, String>) -> Result<Vec<Mod
     add(PERFORMANCE, performance)?;
     add(OBJECT, object)?;
     add(HIT_OBJECT, hit_object)?;
+    add(DIFFICULTY, difficulty)?;
     Ok(modules)
 }
 
@@ -165,7 +187,7 @@ fn simulator(text: &str) -> Result<String, String> {
 fn miss_calculator(text: &str) -> Result<String, String> {
     // A second power elsewhere would need a stand-in of its own.
     expect(text, "pow", 1)?;
-    let text = replace_once(text, POWER, STAND_IN)?;
+    let text = replace_once(text, POWER, POWER_STAND_IN)?;
     Ok(text + MISS_CALCULATOR_ACCESS)
 }
 
@@ -187,6 +209,7 @@ fn performance(text: &str) -> Result<String, String> {
         PERFORMANCE_RESULT,
         combo_based_and_breaks,
         counts,
+        PERFORMANCE_ACCESS,
     ]
     .concat())
 }
@@ -201,4 +224,10 @@ fn object(text: &str) -> Result<String, String> {
 fn hit_object(text: &str) -> Result<String, String> {
     let spinner = cut(text, "/// A spinner.\n", Some("/// A hold note.\n"))?;
     Ok(spinner.to_owned() + "pub use crate::stub::HitObject;\n")
+}
+
+fn difficulty(text: &str) -> Result<String, String> {
+    // Called as a method an exponential would need a pattern of its own.
+    expect(text, ".exp", 0)?;
+    replace(text, EXPONENTIAL, EXPONENTIAL_STAND_IN, EXPONENTIALS)
 }

@@ -13,10 +13,15 @@ pub fn expect(text: &str, pattern: &str, times: usize) -> Result<(), String> {
     }
 }
 
+/// Replaces each of the `times` occurrences of `from` by `to`.
+pub fn replace(text: &str, from: &str, to: &str, times: usize) -> Result<String, String> {
+    expect(text, from, times)?;
+    Ok(text.replace(from, to))
+}
+
 /// Replaces the only occurrence of `from` by `to`.
 pub fn replace_once(text: &str, from: &str, to: &str) -> Result<String, String> {
-    expect(text, from, 1)?;
-    Ok(text.replacen(from, to, 1))
+    replace(text, from, to, 1)
 }
 
 /// The text from `start` on, up to and without `end`, or to the last byte

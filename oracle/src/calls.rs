@@ -10,6 +10,8 @@
 //!        reading of a record gives: so they stand beside it.
 //! u8 3   the same with another count, settings or breaks
 //! u8 4   board: what the lent memory holds
+//! u8 5   read with factors: u64 bits of the aim and of the speed factor, then as 2
+//! u8 6   the same with another count, settings or breaks
 //! ```
 //!
 //! Each call is answered in text:
@@ -18,8 +20,9 @@
 //! build  built
 //! edit   done
 //! 2      attrs INDEX .. and play INDEX .., as `trace` has them; INDEX counts the list's calls from 0
-//! 3      other: all that is claimed is that nothing changes
+//! 3, 6   other: all that is claimed is that nothing changes
 //! board  board DIGEST DIGEST, of all lent words and of the bits of all lent numbers
+//! 5      as 2, then breaks INDEX AIM SPEED, in bits
 //! any    refused NUMBER at OFFSET
 //! ```
 
@@ -28,9 +31,11 @@ use std::fmt::Write as _;
 use crate::{
     board::{board, fits, starts},
     encode::{self, encode},
-    listing::{attributes_line, play_line, refusal_line},
+    frame::take,
+    given::{Factors, checked_play, lines},
+    listing::{refusal_line, refused},
     map::{Break, MapFile, Play, Settings},
-    reader::{MAX_OBJECTS, PLAY_RECORD, Refusal, read_library, read_object, read_play},
+    reader::{MAX_OBJECTS, PLAY_RECORD, read_library, read_object, read_play},
     values::Original,
 };
 
@@ -52,6 +57,7 @@ pub enum Call {
     Read {
         /// Whether count, settings and breaks are said to be the map's.
         is_own: bool,
+        factors: Option<Factors>,
         count: u32,
         settings: Settings,
         breaks: Vec<f64>,
@@ -86,26 +92,24 @@ impl Call {
             }
             Self::Read {
                 is_own,
+                factors,
                 count,
                 settings,
                 breaks,
                 play,
             } => {
-                out.push(if *is_own { 2 } else { 3 });
+                out.push(match (is_own, factors) {
+                    (true, None) => 2,
+                    (false, None) => 3,
+                    (true, Some(_)) => 5,
+                    (false, Some(_)) => 6,
+                });
+                factors.iter().for_each(|factors| factors.encode(&mut out));
                 out.extend(count.to_le_bytes());
                 for setting in [settings.hp, settings.od, settings.cs] {
                     out.extend(setting.to_le_bytes());
                 }
-                out.extend(play.flags.to_le_bytes());
-                out.extend(play.clock_rate.to_le_bytes());
-                encode::play(
-                    &mut out,
-                    &Play {
-                        flags: 0,
-                        clock_rate: 1.0,
-                        ..play.clone()
-                    },
-                );
+                put_play(&mut out, play);
                 out.extend(breaks.iter().flat_map(|time| time.to_le_bytes()));
             }
             Self::Board => out.push(4),
@@ -128,41 +132,60 @@ impl Call {
                 place: u32::from_le_bytes(take(&mut rest)?),
                 record: rest.to_vec(),
             },
-            2 | 3 => {
-                let count = u32::from_le_bytes(take(&mut rest)?);
-                let settings = Settings {
-                    hp: f32::from_le_bytes(take(&mut rest)?),
-                    od: f32::from_le_bytes(take(&mut rest)?),
-                    cs: f32::from_le_bytes(take(&mut rest)?),
-                };
-                let flags = u16::from_le_bytes(take(&mut rest)?);
-                let clock_rate = f64::from_le_bytes(take(&mut rest)?);
-                let play = read_play(&take::<PLAY_RECORD>(&mut rest)?).ok()?;
-                let (times, []) = rest.as_chunks() else {
-                    return None;
-                };
-                Self::Read {
-                    is_own: kind == 2,
-                    count,
-                    settings,
-                    breaks: times.iter().map(|&time| f64::from_le_bytes(time)).collect(),
-                    play: Play {
-                        flags,
-                        clock_rate,
-                        ..play
-                    },
-                }
-            }
+            2 | 3 | 5 | 6 => Self::decode_read(kind, rest)?,
             4 if rest.is_empty() => Self::Board,
             _ => return None,
         })
     }
+
+    fn decode_read(kind: u8, mut rest: &[u8]) -> Option<Self> {
+        let factors = match kind {
+            5 | 6 => Some(Factors::decode(&mut rest)?),
+            _ => None,
+        };
+        let count = u32::from_le_bytes(take(&mut rest)?);
+        let settings = Settings {
+            hp: f32::from_le_bytes(take(&mut rest)?),
+            od: f32::from_le_bytes(take(&mut rest)?),
+            cs: f32::from_le_bytes(take(&mut rest)?),
+        };
+        let play = take_play(&mut rest)?;
+        let (times, []) = rest.as_chunks() else {
+            return None;
+        };
+        Some(Self::Read {
+            is_own: matches!(kind, 2 | 5),
+            factors,
+            count,
+            settings,
+            breaks: times.iter().map(|&time| f64::from_le_bytes(time)).collect(),
+            play,
+        })
+    }
 }
 
-fn take<const N: usize>(rest: &mut &[u8]) -> Option<[u8; N]> {
-    let (taken, behind) = rest.split_first_chunk()?;
-    *rest = behind;
-    Some(*taken)
+fn put_play(out: &mut Vec<u8>, play: &Play) {
+    out.extend(play.flags.to_le_bytes());
+    out.extend(play.clock_rate.to_le_bytes());
+    encode::play(
+        out,
+        &Play {
+            flags: 0,
+            clock_rate: 1.0,
+            ..play.clone()
+        },
+    );
+}
+
+fn take_play(rest: &mut &[u8]) -> Option<Play> {
+    let flags = u16::from_le_bytes(take(rest)?);
+    let clock_rate = f64::from_le_bytes(take(rest)?);
+    let play = read_play(&take::<PLAY_RECORD>(rest)?).ok()?;
+    Some(Play {
+        flags,
+        clock_rate,
+        ..play
+    })
 }
 
 /// The break numbers of a read with these breaks.
@@ -216,6 +239,7 @@ impl List {
             },
             Call::Read { is_own: false, .. } => Ok("other\n".to_owned()),
             Call::Read {
+                factors,
                 count,
                 settings,
                 breaks,
@@ -225,7 +249,7 @@ impl List {
                 if !is_of(map, *count, settings, breaks) {
                     return Err("a read whose arguments are not the map's".to_owned());
                 }
-                Ok(scored(map, index, play))
+                Ok(scored(map, index, play, *factors))
             }
         }
     }
@@ -301,10 +325,6 @@ impl List {
     }
 }
 
-fn refused(number: u8) -> String {
-    refusal_line(&Refusal { number, offset: 0 })
-}
-
 /// Whether a read's arguments are the map's, bit for bit.
 fn is_of(map: &MapFile, count: u32, settings: &Settings, breaks: &[f64]) -> bool {
     let bits = |s: &Settings| [s.hp, s.od, s.cs].map(f32::to_bits);
@@ -317,15 +337,13 @@ fn is_of(map: &MapFile, count: u32, settings: &Settings, breaks: &[f64]) -> bool
 }
 
 /// The values of a play on the map, or the refusal that its record gets behind the map's.
-fn scored(map: &MapFile, index: usize, play: &Play) -> String {
-    let mut file = encode(map);
-    encode::play(&mut file, play);
-    if let Err(refusal) = read_library(&file) {
-        return refused(refusal.number);
+fn scored(map: &MapFile, index: usize, play: &Play, factors: Option<Factors>) -> String {
+    let mut record = Vec::new();
+    encode::play(&mut record, play);
+    match checked_play(&encode(map), &record, factors) {
+        Ok(play) => lines(&Original::new(map), index, &play, factors),
+        Err(number) => refused(number),
     }
-    let attributes = Original::new(map).attributes(play.passed.into());
-    let estimates = attributes.estimates(play);
-    attributes_line(index, &attributes) + &play_line(index, &estimates)
 }
 
 /// Each number takes part in every bit: xorshift64 after each sum.

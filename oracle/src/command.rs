@@ -3,6 +3,7 @@
 mod answers;
 mod attrs;
 mod bench;
+mod breaks;
 mod calls;
 mod example;
 mod generate;
@@ -35,6 +36,8 @@ pub fn run(arguments: &[String]) -> Result<(), String> {
         ["spinner-files"] => spinner::files(),
         ["gen", seed, count, to] => generate::good(number(seed)?, number(count)?, to),
         ["gen-damaged", seed, count, to] => generate::damaged(number(seed)?, number(count)?, to),
+        ["gen-breaks", seed, count, "-"] => breaks::generate(number(seed)?, number(count)?),
+        ["trace-breaks"] => breaks::trace(),
         ["gen-calls", seed, count, "-"] => calls::generate(number(seed)?, number(count)?),
         ["trace-calls"] => calls::trace(),
         ["replay-rows", table, seed, count, path] => {

@@ -33,6 +33,13 @@ pub fn write_frame(output: &mut impl Write, bytes: &[u8]) -> Result<(), String> 
     write(output).map_err(|why| why.to_string())
 }
 
+/// Takes the next bytes of a frame, or none where fewer are left.
+pub fn take<const N: usize>(rest: &mut &[u8]) -> Option<[u8; N]> {
+    let (taken, behind) = rest.split_first_chunk()?;
+    *rest = behind;
+    Some(*taken)
+}
+
 /// Up to `count` bytes. Memory grows with what arrives, not with what a prefix claims.
 fn read_bytes(input: &mut impl Read, count: u64) -> Result<Vec<u8>, String> {
     let mut bytes = Vec::new();

@@ -24,11 +24,13 @@ pub mod util;
 pub use stub::{Beatmap, GameMods};
 
 pub mod board;
+pub mod breaks;
 pub mod calls;
 pub mod command;
 pub mod encode;
 pub mod frame;
 pub mod generate;
+pub mod given;
 pub mod listing;
 pub mod map;
 pub mod reader;

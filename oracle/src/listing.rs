@@ -5,7 +5,7 @@ use std::fmt::Write;
 use crate::{
     map::MapFile,
     reader::Refusal,
-    values::{Attributes, Estimates, Original},
+    values::{Attributes, Estimates, Original, SliderBreaks},
 };
 
 /// The listing of a read file, or of its refusal.
@@ -61,6 +61,11 @@ pub fn refusal_line(refusal: &Refusal) -> String {
     format!("refused {} at {}\n", refusal.number, refusal.offset)
 }
 
+/// The line of a refusal that points at no record.
+pub fn refused(number: u8) -> String {
+    refusal_line(&Refusal { number, offset: 0 })
+}
+
 fn map_line(a: &Attributes) -> String {
     format!(
         "map {} {} {} {} {} {} {} {}\n",
@@ -82,6 +87,14 @@ pub fn play_line(index: usize, estimates: &Estimates) -> String {
         float(estimates.combo_based),
         estimates.score_based.map_or("-".to_owned(), float),
         float(estimates.effective),
+    )
+}
+
+pub fn breaks_line(index: usize, breaks: &SliderBreaks) -> String {
+    format!(
+        "breaks {index} {} {}\n",
+        float(breaks.aim),
+        float(breaks.speed),
     )
 }
 

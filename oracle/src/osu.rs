@@ -25,6 +25,34 @@ pub mod performance {
         calculator::OsuPerformanceCalculator::new(attrs, mods, acc, state, using_classic_slider_acc)
             .calculate()
     }
+
+    /// The original's slider breaks by each factor of the attributes, behind the test that stands
+    /// before each of its two calls: without an effective miss they keep the 0 that they start with.
+    pub fn slider_breaks(
+        attrs: OsuDifficultyAttributes,
+        mods: &GameMods,
+        acc: f64,
+        state: OsuScoreState,
+        using_classic_slider_acc: bool,
+        effective_miss_count: f64,
+    ) -> [f64; 2] {
+        let factors = [
+            attrs.aim_top_weighted_slider_factor,
+            attrs.speed_top_weighted_slider_factor,
+        ];
+        if effective_miss_count > 0.0 {
+            let calculator = calculator::OsuPerformanceCalculator::new(
+                attrs,
+                mods,
+                acc,
+                state,
+                using_classic_slider_acc,
+            );
+            factors.map(|factor| calculator.estimated_slider_breaks(factor, effective_miss_count))
+        } else {
+            [0.0; 2]
+        }
+    }
 }
 
 pub mod utils {

@@ -76,6 +76,11 @@ pub enum Kind {
         settings: [u32; 3],
         breaks: Vec<u64>,
         play: [u8; PLAY_BODY],
+        factors: Option<[u64; 2]>,
+    },
+    Score {
+        play: [u8; PLAY_BODY],
+        factors: [u64; 2],
     },
 }
 
@@ -165,7 +170,10 @@ fn parse_kind(
         ("build", Some(options)) => build(options),
         ("edit", Some(options)) => edit(map, options, definitions),
         ("read", Some(options)) => read(map, options, definitions),
-        ("build" | "edit" | "read", None) => Err(format!("a {kind} has arguments after a `;`")),
+        ("score", Some(options)) => score(options, definitions),
+        ("build" | "edit" | "read" | "score", None) => {
+            Err(format!("a {kind} has arguments after a `;`"))
+        }
         _ => Err(format!("unknown kind `{kind}`")),
     }
 }
@@ -178,7 +186,7 @@ fn parse_expected(text: &str) -> Result<(u8, u32), String> {
         return Err(format!("expected is `ok` or `N at OFFSET`, not `{text}`"));
     };
     let number = whole(number)?;
-    if !(1..=13).contains(&number) {
+    if !(1..=14).contains(&number) {
         return Err(format!("{number} is no refusal's number"));
     }
     Ok((number as u8, narrow(whole(offset)?)?))
@@ -187,7 +195,7 @@ fn parse_expected(text: &str) -> Result<(u8, u32), String> {
 /// Guards against a slip of the pen: a refusal points at a byte of its file, or at 0.
 fn check_offset(row: &Row) -> Result<(), String> {
     let end = match row.kind {
-        Kind::Program | Kind::File | Kind::Build { .. } => row.file.len(),
+        Kind::Program | Kind::File | Kind::Build { .. } | Kind::Score { .. } => row.file.len(),
         Kind::Edit { .. } | Kind::Read { .. } => 0,
     };
     if row.offset != 0 && row.offset as usize >= end {
@@ -231,7 +239,9 @@ fn read(map: &Recipe, mut options: Options, definitions: &Definitions) -> Result
         Some(text) => parse_breaks(text)?,
         None => map.breaks.clone(),
     };
-    let play = parse_play(inside(options.need("play")?)?, definitions)?;
+    let play = parse_play(options.need("play")?, definitions)?;
+    check_cases(&play)?;
+    let factors = options.take("factors").map(parse_factors).transpose()?;
     options.finish()?;
     Ok(Kind::Read {
         memory,
@@ -239,7 +249,15 @@ fn read(map: &Recipe, mut options: Options, definitions: &Definitions) -> Result
         settings,
         breaks,
         play,
+        factors,
     })
+}
+
+fn score(mut options: Options, definitions: &Definitions) -> Result<Kind, String> {
+    let play = parse_play(options.need("play")?, definitions)?;
+    let factors = parse_factors(options.need("factors")?)?;
+    options.finish()?;
+    Ok(Kind::Score { play, factors })
 }
 
 /// Lent sizes (by default what the map needs) and tampers of an edit or a read.
@@ -287,21 +305,30 @@ fn parse_breaks(text: &str) -> Result<Vec<u64>, String> {
     Ok(breaks)
 }
 
-/// The body of one PL record. A read takes origin and score as cases, so only their valid values
-/// can be given.
+fn parse_factors(text: &str) -> Result<[u64; 2], String> {
+    let Some((aim, speed)) = text.split_once(':') else {
+        return Err("factors are aim:speed".to_string());
+    };
+    Ok([double_bits(aim)?, double_bits(speed)?])
+}
+
+/// The body of one PL record in parentheses.
 fn parse_play(text: &str, definitions: &Definitions) -> Result<[u8; PLAY_BODY], String> {
-    let bytes = assemble(text, definitions)?.bytes;
+    let bytes = assemble(inside(text)?, definitions)?.bytes;
     let (Some(b"PL"), Some(body)) = (bytes.get(..2), bytes.get(2..)) else {
         return Err("play is one PL token".to_string());
     };
-    let body: [u8; PLAY_BODY] = body
-        .try_into()
-        .map_err(|_| "play is one PL token".to_string())?;
-    let (origin, has, score) = (body[26], body[27], &body[28..32]);
+    body.try_into()
+        .map_err(|_| "play is one PL token".to_string())
+}
+
+/// A read takes origin and score as cases, so only their valid values can be given.
+fn check_cases(play: &[u8; PLAY_BODY]) -> Result<(), String> {
+    let (origin, has, score) = (play[26], play[27], &play[28..32]);
     if origin > 2 || has > 1 || (has == 0 && score != [0; 4]) {
         return Err("a read's origin and score are cases: this one is not there".to_string());
     }
-    Ok(body)
+    Ok(())
 }
 
 // ---------------------------------------------------------------- arguments after the `;`
@@ -928,6 +955,7 @@ mod tests {
             settings,
             breaks,
             play,
+            factors: None,
         };
         assert_eq!(only_row(table).kind, expected);
     }
@@ -947,8 +975,28 @@ mod tests {
             settings,
             breaks,
             play,
+            factors: None,
         };
         assert_eq!(only_row(table).kind, expected);
+    }
+
+    #[test]
+    fn factors_of_a_read_and_of_a_score() {
+        // 10 is 4024 and zeros.
+        let factors = [0x4024_0000_0000_0001, 0x8000_0000_0000_0000];
+        let row = only_row("a | read | MH:5:5:5 ; play=(PL) factors=next(10):-0.0 | 14 at 0");
+        let Kind::Read { factors: given, .. } = row.kind else {
+            panic!("{row:?}");
+        };
+        assert_eq!((given, row.number), (Some(factors), 14));
+        // The file may be broken, and the play's origin and score out of range.
+        let table = "a | score | MH:5:5:5 CI:0 cut:1 ; play=(PL:origin=3:score=1) \
+            factors=next(10):-0.0 | 2 at 14";
+        let mut play = [0; 42];
+        (play[26], play[28], play[40], play[41]) = (3, 1, 0xf0, 0x3f);
+        let row = only_row(table);
+        assert_eq!(row.kind, Kind::Score { play, factors });
+        assert_eq!((row.file.len(), row.offset), (23, 14));
     }
 
     /// Each table is refused, and the reason says the given words.
@@ -1002,7 +1050,7 @@ mod tests {
     fn errors_of_expected() {
         check_faults(&[
             ("a | file | - | fine", "`ok` or"),
-            ("a | file | - | 14 at 0", "no refusal's number"),
+            ("a | file | - | 15 at 0", "no refusal's number"),
             ("a | file | - | 0 at 0", "no refusal's number"),
             ("a | file | hex:00 | 2 at 1", "not below 1"),
             (
@@ -1040,6 +1088,15 @@ mod tests {
                 "a | read | MH:5:5:5 ; play=(PL) play=(PL) | ok",
                 "given twice",
             ),
+            ("a | score | - | ok", "after a `;`"),
+            ("a | score | - ; play=(PL) | ok", "`factors=` is missing"),
+            ("a | score | - ; factors=0:0 | ok", "`play=` is missing"),
+            ("a | score | - ; play=(PL) factors=0 | ok", "aim:speed"),
+            ("a | score | - ; play=(PL) factors=0:0:0 | ok", "no number"),
+            (
+                "a | score | - ; play=(PL) factors=0:0 count=1 | ok",
+                "unknown argument",
+            ),
         ]);
     }
 
@@ -1051,10 +1108,10 @@ mod tests {
         assert!(files >= 200, "{files} rows of files");
         assert!(
             rows.len() - files >= 60,
-            "{} rows of calls on a board",
+            "{} rows of calls with arguments",
             rows.len() - files
         );
-        for number in 0..=13 {
+        for number in 0..=14 {
             assert!(
                 rows.iter().any(|row| row.number == number),
                 "no row gets {number}"

@@ -2,6 +2,7 @@
 
 use crate::{
     Beatmap, GameMods,
+    given::Factors,
     map::{MapFile, Nested, Object, ObjectKind, Origin, Play},
     model::hit_object::Spinner,
     osu::{
@@ -46,6 +47,12 @@ pub struct Estimates {
     pub combo_based: f64,
     pub score_based: Option<f64>,
     pub effective: f64,
+}
+
+#[derive(Clone, Debug)]
+pub struct SliderBreaks {
+    pub aim: f64,
+    pub speed: f64,
 }
 
 impl Original {
@@ -142,6 +149,29 @@ impl Attributes {
             score_based: values.score_based_estimated_miss_count,
             effective: values.effective_miss_count,
         }
+    }
+
+    /// The slider breaks of the play whose estimates these are.
+    pub fn slider_breaks(
+        &self,
+        play: &Play,
+        estimates: &Estimates,
+        factors: Factors,
+    ) -> SliderBreaks {
+        let difficulty = OsuDifficultyAttributes {
+            aim_top_weighted_slider_factor: factors.aim,
+            speed_top_weighted_slider_factor: factors.speed,
+            ..self.difficulty()
+        };
+        let [aim, speed] = performance::slider_breaks(
+            difficulty,
+            &mods(play),
+            estimates.accuracy,
+            state(play),
+            play.origin != Origin::WithSliderAcc,
+            estimates.effective,
+        );
+        SliderBreaks { aim, speed }
     }
 
     /// The steps of the score-based estimate. Only for plays that have one.

@@ -8,7 +8,7 @@ mod substitute;
 use std::{env, fs, path::Path};
 
 use assemble::Module;
-use substitute::{cut, expect, replace_once};
+use substitute::{cut, expect, replace, replace_once};
 
 #[test]
 fn a_replacement_applies_once_or_fails() {
@@ -24,6 +24,18 @@ fn a_replacement_applies_once_or_fails() {
             .contains("found 2 times")
     );
     assert!(expect("b b", "b", 2).is_ok());
+}
+
+#[test]
+fn a_replacement_applies_as_often_as_it_says_or_fails() {
+    assert_eq!(replace("b b", "b", "x", 2), Ok("x x".to_owned()));
+    for times in [0, 1, 3] {
+        assert!(
+            replace("b b", "b", "x", times)
+                .unwrap_err()
+                .contains("found 2 times")
+        );
+    }
 }
 
 #[test]
@@ -56,7 +68,7 @@ fn error_with(path: &str, change: impl Fn(String) -> String) -> String {
 }
 
 #[test]
-fn the_text_is_the_original_but_for_two_substitutions() {
+fn the_text_is_the_original_but_for_three_substitutions() {
     let modules = assemble_with("", |text| text).expect("all sources");
     assert_eq!(modules.len(), assemble::sources().len());
     let text_of = |file: &str| {
@@ -77,6 +89,26 @@ fn the_text_is_the_original_but_for_two_substitutions() {
     let (_, after) = after.split_once(".powf(2.5)").unwrap();
     let text = text_of("osu_legacy_score_miss_calc.rs");
     assert!(text.contains(before) && text.contains(after));
+    let curves = original("util/difficulty.rs").unwrap();
+    let text = text_of("util_difficulty.rs");
+    assert!(text.contains(&curves.replace("f64::exp(", "crate::stand_in::exp(")));
+    assert!(!text.contains("f64::exp("));
+}
+
+#[test]
+fn an_exponential_more_or_less_fails() {
+    let curves = "util/difficulty.rs";
+    for (change, found) in [
+        (("f64::exp(exp)", "exp"), "found 3 times"),
+        (
+            ("f64::exp(exp)", "f64::exp(f64::exp(exp))"),
+            "found 5 times",
+        ),
+        (("f64::exp(exp)", "f64::exp(exp).exp()"), "found 1 times"),
+    ] {
+        let why = error_with(curves, |text| text.replace(change.0, change.1));
+        assert!(why.starts_with(curves) && why.contains(found), "{why}");
+    }
 }
 
 /// All markers of the build script, by file.

@@ -8,7 +8,9 @@ use oracle::{
     calls::{Call, List},
     encode::{self, encode},
     generate::{calls::list, map_file},
+    given::Factors,
     map::{MapFile, Object, Play},
+    stand_in::exp,
     values::Original,
 };
 
@@ -108,7 +110,7 @@ fn calls_come_back_from_their_frames() {
 
 #[test]
 fn lists_meet_each_refusal() {
-    let mut met = [0_u32; 13];
+    let mut met = [0_u32; 15];
     for index in 0..500 {
         let mut answers = List::default();
         for call in list(6, index) {
@@ -120,7 +122,9 @@ fn lists_meet_each_refusal() {
             met[number] += 1;
         }
     }
-    assert!(met[2..].iter().all(|&count| count > 5), "{met:?}");
+    // 13 is of a board that no build made.
+    let is_met = |number: usize| number == 13 || met[number] > 5;
+    assert!((2..15).all(is_met), "{met:?}");
 }
 
 fn build(map: &MapFile, words: u32, starts: u32) -> Call {
@@ -144,6 +148,7 @@ fn edit(count: u32, place: u32, object: &Object) -> Call {
 fn read(map: &MapFile, play: Play) -> Call {
     Call::Read {
         is_own: true,
+        factors: None,
         count: map.objects.len() as u32,
         settings: map.settings,
         breaks: Vec::new(),
@@ -188,4 +193,60 @@ fn an_edit_changes_what_is_read() {
     }
     assert!(answer(edit(1, 0, &circle(0.0))).is_err());
     assert!(answer(read(&map(4.0, two.objects.clone()), play(2, 2))).is_err());
+}
+
+fn read_with(map: &MapFile, play: Play, aim: f64, speed: f64) -> Call {
+    let mut call = read(map, play);
+    if let Call::Read { factors, .. } = &mut call {
+        *factors = Some(Factors { aim, speed });
+    }
+    call
+}
+
+#[test]
+fn factors_add_a_line_and_14() {
+    let three = map(5.0, vec![circle(0.0), circle(500.0), circle(900.0)]);
+    let mut list = List::default();
+    let mut answer = |call| list.answer(&call).expect("a call of this list");
+    assert_eq!(answer(build(&three, 104, 3)), "built\n");
+    // Two misses, a 100 and no combo: 1 is the most, and half of that stays.
+    let two_misses = Play {
+        n300: 0,
+        n100: 1,
+        misses: 2,
+        score: None,
+        ..play(3, 0)
+    };
+    let without = answer(read(&three, two_misses.clone()));
+    let mut due = without
+        .replace("attrs 0", "attrs 1")
+        .replace("play 0", "play 1");
+    let breaks: f64 = 0.5 / (1.0 + exp(15.0 * (0.33 - 1.0)));
+    due += &format!("breaks 1 {:016x} 8000000000000000\n", breaks.to_bits());
+    assert_eq!(
+        answer(read_with(&three, two_misses.clone(), 0.5, -0.0)),
+        due
+    );
+    for (call, number) in [
+        (
+            read_with(&three, two_misses.clone(), 10.0_f64.next_up(), 0.0),
+            14,
+        ),
+        (read_with(&three, two_misses.clone(), 0.0, f64::NAN), 14),
+        (read_with(&three, play(3, 4), 11.0, 0.0), 9),
+        (
+            read_with(
+                &three,
+                Play {
+                    flags: 512,
+                    ..two_misses
+                },
+                11.0,
+                0.0,
+            ),
+            8,
+        ),
+    ] {
+        assert_eq!(answer(call), format!("refused {number} at 0\n"));
+    }
 }

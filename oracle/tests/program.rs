@@ -30,7 +30,7 @@ fn frame(bytes: &[u8]) -> Vec<u8> {
 
 #[test]
 fn bad_calls_end_with_status_2_and_one_line() {
-    let cases: [(&[&str], &[u8]); 17] = [
+    let cases: [(&[&str], &[u8]); 20] = [
         (&[], b""),
         (&["unknown"], b""),
         (&["list", "--other"], b""),
@@ -39,6 +39,9 @@ fn bad_calls_end_with_status_2_and_one_line() {
         (&["gen", "1", "-2", "-"], b""),
         (&["gen-damaged", "x", "2", "-"], b""),
         (&["gen-calls", "1", "2", "folder"], b""),
+        (&["gen-breaks", "1", "2", "folder"], b""),
+        (&["trace-breaks"], b"\x03\x00\x00\x00\x00\x00\x00"),
+        (&["trace-breaks"], b"\x04\x00\x00\x00\x01\x00\x00\x00"),
         (&["trace-calls"], b"\x01\x00\x00\x00\x05"),
         (&["trace-calls"], b"\x09\x00\x00\x00\x01\0\0\0\0\0\0\0\0"),
         (&["replay-rows", "/nowhere/table.txt", "1", "1", "-"], b""),

@@ -2,6 +2,7 @@
 
 use oracle::{
     board::{ENTRY, places},
+    given::Factors,
     map::{Play, Settings},
     reader::{MAX_BREAKS, MAX_OBJECTS, Refusal},
 };
@@ -9,7 +10,7 @@ use oracle::{
 use super::{
     entry::{self, COMBO, COMBOS_BEFORE, EMPTY, Entry, FIRST_IS_HIT, OBJECTS, SLIDERS},
     file::{self, is_time},
-    score::{self, Score},
+    score::{self, BreaksScore, Score},
 };
 
 /// The entries on the way from a place to the top.
@@ -102,6 +103,20 @@ pub fn read(
         attributes,
         estimates,
     })
+}
+
+/// The same with the slider breaks by two factors.
+pub fn read_breaks(
+    board: &[u64],
+    starts: &[f64],
+    count: usize,
+    settings: &Settings,
+    breaks: &[f64],
+    play: &Play,
+    factors: Factors,
+) -> Result<BreaksScore, u8> {
+    let score = read(board, starts, count, settings, breaks, play)?;
+    score.with_breaks(play, factors)
 }
 
 fn check_room(board: &[u64], starts: &[f64], count: usize) -> Result<(), u8> {

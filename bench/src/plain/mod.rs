@@ -9,6 +9,6 @@ mod score;
 #[cfg(test)]
 mod tests;
 
-pub use board::{build, edit, read};
+pub use board::{build, edit, read, read_breaks};
 pub use file::score_map;
-pub use score::Score;
+pub use score::{BreaksScore, Score};

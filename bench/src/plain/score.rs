@@ -2,10 +2,11 @@
 
 use oracle::{
     Beatmap,
+    given::Factors,
     map::{Origin, Play, Settings},
     reader::MAX_ESTIMATED_COMBO,
     util::ruleset_ext::calculate_difficulty_peppy_stars,
-    values::{Attributes, Estimates},
+    values::{Attributes, Estimates, SliderBreaks},
 };
 
 use super::entry::{
@@ -17,6 +18,28 @@ use super::entry::{
 pub struct Score {
     pub attributes: Attributes,
     pub estimates: Estimates,
+}
+
+pub struct BreaksScore {
+    pub score: Score,
+    pub breaks: SliderBreaks,
+}
+
+impl Score {
+    /// 14 for factors out of range.
+    pub fn with_breaks(self, play: &Play, factors: Factors) -> Result<BreaksScore, u8> {
+        let is_factor = |factor: f64| (0.0..=10.0).contains(&factor);
+        if !is_factor(factors.aim) || !is_factor(factors.speed) {
+            return Err(14);
+        }
+        let breaks = self
+            .attributes
+            .slider_breaks(play, &self.estimates, factors);
+        Ok(BreaksScore {
+            score: self,
+            breaks,
+        })
+    }
 }
 
 /// The attributes of the objects of a sum; `ends` are the starts of the map's first object and of the last one passed.

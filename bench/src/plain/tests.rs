@@ -3,11 +3,12 @@
 use oracle::{
     calls::{Call, START_FILLER, WORD_FILLER},
     generate::{calls::list, damage::damaged_file, map_file, random::Random},
-    map::Play,
+    given::Factors,
+    map::{Play, Settings},
 };
 
 use crate::{
-    answer::Answer,
+    answer::{Answer, BreaksAnswer},
     plain,
     proved::{self, Status},
 };
@@ -18,7 +19,18 @@ struct Met {
     builds: [u32; 14],
     edits: [u32; 14],
     reads: [u32; 14],
+    factor_reads: [u32; 15],
 }
+
+/// The factors of the reads, in turn.
+const FACTORS: [[f64; 2]; 6] = [
+    [0.5, 2.0],
+    [10.0, 0.125],
+    [0.0, -0.0],
+    [0.75, 10.5],
+    [1.5, 1.0],
+    [f64::NAN, 0.25],
+];
 
 /// The same lent memory, for each side its own.
 #[derive(Default)]
@@ -84,16 +96,47 @@ impl Lent {
                 ..
             } => {
                 let count = *count as usize;
-                let given = (proved::settings(settings), proved::play(play));
-                let answer: Answer =
-                    proved::read(&ours.0, &ours.1, count, given.0, breaks, given.1).into();
-                met.reads[number(&answer)] += 1;
-                let theirs = plain::read(&plain.0, &plain.1, count, settings, breaks, play);
-                assert_eq!(answer, theirs.into());
+                self.read(count, settings, breaks, play, met);
+                self.read_breaks(count, settings, breaks, play, met);
             }
             Call::Board => {}
         }
         self.assert_same();
+    }
+
+    fn read(&self, count: usize, settings: &Settings, breaks: &[f64], play: &Play, met: &mut Met) {
+        let (ours, plain) = (&self.ours, &self.plain);
+        let given = (proved::settings(settings), proved::play(play));
+        let answer: Answer = proved::read(&ours.0, &ours.1, count, given.0, breaks, given.1).into();
+        met.reads[number(&answer)] += 1;
+        let theirs = plain::read(&plain.0, &plain.1, count, settings, breaks, play);
+        assert_eq!(answer, theirs.into());
+    }
+
+    fn read_breaks(
+        &self,
+        count: usize,
+        settings: &Settings,
+        breaks: &[f64],
+        play: &Play,
+        met: &mut Met,
+    ) {
+        let (ours, plain) = (&self.ours, &self.plain);
+        let turn = met.factor_reads.iter().sum::<u32>() as usize;
+        let [aim, speed] = FACTORS[turn % FACTORS.len()];
+        let factors = Factors { aim, speed };
+        let answer = proved::read_breaks(
+            &ours.0,
+            &ours.1,
+            count,
+            proved::settings(settings),
+            breaks,
+            proved::play(play),
+            proved::factors(factors),
+        );
+        met.factor_reads[usize::from(answer.status)] += 1;
+        let theirs = plain::read_breaks(&plain.0, &plain.1, count, settings, breaks, play, factors);
+        assert_eq!(BreaksAnswer::from(answer), theirs.into());
     }
 
     /// Puts the same number at the same place of both memories, mostly one near a limit.
@@ -132,7 +175,7 @@ fn replay(calls: &[Call], mut damage: Option<Random>, met: &mut Met) {
     }
 }
 
-fn assert_met(kind: &str, met: &[u32; 14], numbers: &[usize]) {
+fn assert_met(kind: &str, met: &[u32], numbers: &[usize]) {
     for &number in numbers {
         assert!(met[number] >= 10, "{kind}: few of {number} in {met:?}");
     }
@@ -147,6 +190,8 @@ fn lists_of_calls() {
     assert_met("builds", &met.builds, &[0, 11]);
     assert_met("edits", &met.edits, &[0, 2, 3, 4, 5, 6, 7, 11, 12]);
     assert_met("reads", &met.reads, &[0, 4, 6, 8, 9, 10, 11]);
+    let numbers = &[0, 4, 6, 8, 9, 10, 11, 14];
+    assert_met("reads with factors", &met.factor_reads, numbers);
 }
 
 #[test]
@@ -158,6 +203,7 @@ fn lists_of_calls_on_damaged_boards() {
     }
     assert_met("edits", &met.edits, &[0, 7, 13]);
     assert_met("reads", &met.reads, &[0, 9, 10, 13]);
+    assert_met("reads with factors", &met.factor_reads, &[0, 9, 10, 13, 14]);
 }
 
 fn scored(file: &[u8]) -> Answer {

@@ -6,7 +6,8 @@ use crate::{
     play::Play,
     record::{self, Record},
     score::{Score, score_map},
-    sys::{self, Settings},
+    slider_breaks::BreaksScore,
+    sys::{self, Settings, SliderFactors},
 };
 
 /// A map under edit: a tree of sums over its objects, so that an edit and a read take a few steps.
@@ -135,6 +136,40 @@ impl Board {
             )
         };
         Score::of(&answer)
+    }
+
+    /// The score of a play on the map as it is, and its slider breaks by two factors: what
+    /// [`Map::score_play_breaks`] gives on that map. A refusal's offset is 0.
+    ///
+    /// ```
+    /// use popejoanplum::{Board, Map, Object, Play, SliderFactors};
+    ///
+    /// let objects = (0..10).map(|i| Object::circle(500.0 * f64::from(i))).collect();
+    /// let board = Board::from_map(&Map { objects, ..Map::default() })?;
+    /// let play = Play { passed_objects: 8, max_combo: 3, n300: 5, n100: 1, misses: 2, ..Play::default() };
+    ///
+    /// let panel = board.read_breaks(&play, &SliderFactors { aim: 0.25, speed: 0.0 })?;
+    /// assert_eq!(panel.score, board.read(&play)?);
+    /// assert!(panel.slider_breaks.aim > 0.0 && panel.slider_breaks.aim < 1.0);
+    /// # Ok::<(), popejoanplum::Error>(())
+    /// ```
+    pub fn read_breaks(&self, play: &Play, factors: &SliderFactors) -> Result<BreaksScore, Error> {
+        // SAFETY: as of a read.
+        let answer = unsafe {
+            sys::pjp_read_breaks(
+                self.words.as_ptr(),
+                self.words.len(),
+                self.starts.as_ptr(),
+                self.starts.len(),
+                self.starts.len(),
+                self.settings,
+                self.break_times.as_ptr(),
+                self.break_times.len(),
+                play.into(),
+                *factors,
+            )
+        };
+        BreaksScore::of(&answer)
     }
 
     /// How many objects the map has.

@@ -8,6 +8,8 @@
 //!
 //! - From the bytes of a map file: [`score_map`], [`score_play`], [`score_play_at`],
 //!   [`play_scores`], and [`read_map`]; the [`listing`] that the program `list` prints.
+//! - With two factors beside the play its slider breaks too: [`score_play_breaks`] and
+//!   [`Board::read_breaks`].
 //! - From data: [`Map`], its [`Object`]s, and [`MapFile`], a map with its plays.
 //! - A map under edit: [`Board`].
 //! - Text that a person writes and reads: [`text`].
@@ -28,6 +30,7 @@ mod play;
 mod play_scores;
 mod record;
 mod score;
+mod slider_breaks;
 #[allow(missing_docs, reason = "fields that say what they are")]
 pub mod sys;
 pub mod text;
@@ -40,4 +43,5 @@ pub use map::{Break, Map, MapFile, Nested, Object, ObjectKind};
 pub use play::{Mods, Origin, Play};
 pub use play_scores::{PlayScores, play_scores};
 pub use score::{Estimates, MapInfo, Score, read_map, score_map, score_play, score_play_at};
-pub use sys::{Attributes, Settings};
+pub use slider_breaks::{BreaksScore, score_play_breaks};
+pub use sys::{Attributes, Settings, SliderBreaks, SliderFactors};

@@ -5,7 +5,8 @@ use crate::{
     play::Play,
     record::{self, Record},
     score::{Score, score_map, score_play},
-    sys::{Attributes, Settings},
+    slider_breaks::{BreaksScore, score_play_breaks},
+    sys::{Attributes, Settings, SliderFactors},
 };
 
 /// A break: a time without objects, which the drain leaves out.
@@ -178,6 +179,15 @@ impl Map {
     /// under edit a [`Board`](crate::Board) is faster.
     pub fn score_play(&self, play: &Play) -> Result<Score, Error> {
         score_play(&self.to_bytes(), play)
+    }
+
+    /// The score of a play and its slider breaks by two factors. It too writes and reads the whole map.
+    pub fn score_play_breaks(
+        &self,
+        play: &Play,
+        factors: &SliderFactors,
+    ) -> Result<BreaksScore, Error> {
+        score_play_breaks(&self.to_bytes(), play, factors)
     }
 }
 

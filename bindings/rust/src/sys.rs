@@ -7,7 +7,7 @@
 //! slices that are valid through the call, aligned, and do not overlap; a length of 0 goes with any
 //! pointer. They keep no pointer, have no state, and may be called from any thread.
 //!
-//! A `status` is 0 where the call is good, else the number of the broken rule (2 to 13), and 255
+//! A `status` is 0 where the call is good, else the number of the broken rule (2 to 14), and 255
 //! only from [`pjp_score_play_at`] where an accepted file has no play at the index. Where it is not
 //! 0, `offset` is that of the record that breaks the rule, all other values are 0, and all lent
 //! memory is as it was.
@@ -92,6 +92,31 @@ pub struct Estimates {
     pub has_score_based: u8,
 }
 
+/// The two top-weighted slider factors: how much of a map's difficult strains comes from its sliders.
+/// They are no part of a map file. Each is from 0 to 10; the library refuses others (14).
+#[repr(C)]
+#[derive(Clone, Copy, Debug, Default, PartialEq)]
+pub struct SliderFactors {
+    /// Of aim.
+    pub aim: f64,
+    /// Of speed.
+    pub speed: f64,
+}
+
+/// How many sliders a play broke, as estimated by each factor: from 0 to the play's judgements of 100,
+/// or not a number where a board that no build made has judgements and no combo.
+///
+/// Both are 0 where the effective misses are at most 1, where no judgement is a 100, and for
+/// [`Origin::WithSliderAcc`](crate::Origin::WithSliderAcc).
+#[repr(C)]
+#[derive(Clone, Copy, Debug, Default, PartialEq)]
+pub struct SliderBreaks {
+    /// By the factor of aim.
+    pub aim: f64,
+    /// By the factor of speed.
+    pub speed: f64,
+}
+
 /// What a map file has.
 #[repr(C)]
 #[derive(Clone, Copy, Debug, PartialEq)]
@@ -122,6 +147,17 @@ pub struct PlayAnswer {
     pub estimates: Estimates,
 }
 
+/// The score of a play, and its slider breaks.
+#[repr(C)]
+#[derive(Clone, Copy, Debug, PartialEq)]
+pub struct BreaksAnswer {
+    pub status: u8,
+    pub offset: usize,
+    pub attributes: Attributes,
+    pub estimates: Estimates,
+    pub slider_breaks: SliderBreaks,
+}
+
 unsafe extern "C" {
     /// How many words the board of that many objects has; 0 above 8,192 objects.
     pub safe fn pjp_board_words(count: usize) -> usize;
@@ -134,6 +170,14 @@ unsafe extern "C" {
 
     /// The score of a play that is given beside the file.
     pub fn pjp_score_play(file: *const u8, file_len: usize, play: Play) -> PlayAnswer;
+
+    /// What [`pjp_score_play`] gives, and the slider breaks by two factors.
+    pub fn pjp_score_play_breaks(
+        file: *const u8,
+        file_len: usize,
+        play: Play,
+        factors: SliderFactors,
+    ) -> BreaksAnswer;
 
     /// The score of the play at an index of the file.
     pub fn pjp_score_play_at(file: *const u8, file_len: usize, index: u64) -> PlayAnswer;
@@ -172,4 +216,18 @@ unsafe extern "C" {
         breaks_len: usize,
         play: Play,
     ) -> PlayAnswer;
+
+    /// What [`pjp_read`] gives, and the slider breaks by two factors.
+    pub fn pjp_read_breaks(
+        board: *const u64,
+        board_len: usize,
+        starts: *const f64,
+        starts_len: usize,
+        count: usize,
+        settings: Settings,
+        breaks: *const f64,
+        breaks_len: usize,
+        play: Play,
+        factors: SliderFactors,
+    ) -> BreaksAnswer;
 }

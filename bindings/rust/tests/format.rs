@@ -3,7 +3,7 @@
 use std::{fs, path::Path};
 
 use popejoanplum::{
-    Error, score_map,
+    Board, Error, Map, Play, SliderFactors, score_map,
     sys::{self, Settings},
 };
 
@@ -174,7 +174,37 @@ fn refusals() {
     };
     let of_header: Vec<String> = defines.lines().map(define).collect();
     assert_eq!(of_page, of_header);
-    assert_eq!(rows.len(), 13);
+    assert_eq!(rows.len(), 14);
+}
+
+/// Each factor's range, on a file and on a board; the negative zero is in it.
+#[test]
+fn factors() {
+    let page = page();
+    let rows = table(&page, "## Factors and slider breaks");
+    let names: Vec<&str> = rows.iter().map(|row| row[0]).collect();
+    assert_eq!(names, ["aim", "speed"]);
+    let map = Map::default();
+    let board = Board::from_map(&map).unwrap();
+    for (place, row) in rows.iter().enumerate() {
+        let (low, high) = row[2].split_once(" to ").unwrap();
+        let (low, high) = (number(low), number(high));
+        let of = |value: f64| {
+            let mut both = [low, high];
+            both[place] = value;
+            let [aim, speed] = both;
+            let factors = SliderFactors { aim, speed };
+            let given = map.score_play_breaks(&Play::default(), &factors).err();
+            assert_eq!(board.read_breaks(&Play::default(), &factors).err(), given);
+            given.map(|error| (error.number(), error.offset()))
+        };
+        for value in [low, high, -low] {
+            assert_eq!(of(value), None, "{} {value}", row[0]);
+        }
+        for value in [low.next_down(), high.next_up(), f64::NAN, f64::INFINITY] {
+            assert_eq!(of(value), Some((14, 0)), "{} {value}", row[0]);
+        }
+    }
 }
 
 /// Each word of an entry may be its limit and not above it. The other words are such that a read
@@ -193,9 +223,9 @@ fn words() {
             entry[word] = value;
             let board = [[0; 13], entry].concat();
             let settings = Settings::default();
-            let play = (&popejoanplum::Play {
+            let play = (&Play {
                 passed_objects: 1,
-                ..Default::default()
+                ..Play::default()
             })
                 .into();
             // SAFETY: the pointers and lengths are those of slices that live through the call.

@@ -10,7 +10,7 @@ use std::{
     process::Command,
 };
 
-use popejoanplum::{Mods, Origin, Play, sys};
+use popejoanplum::{Map, Mods, Origin, Play, SliderFactors, sys};
 
 /// A struct as lines of text: its size and alignment, then each field's name, offset, size and type.
 type Layouts = BTreeMap<String, Vec<String>>;
@@ -103,6 +103,8 @@ fn ours() -> Layouts {
             has_score_based,
         }
     );
+    layout!(layouts, SliderFactors { aim, speed });
+    layout!(layouts, SliderBreaks { aim, speed });
     layout!(
         layouts,
         MapInfo {
@@ -128,6 +130,16 @@ fn ours() -> Layouts {
             offset,
             attributes,
             estimates
+        }
+    );
+    layout!(
+        layouts,
+        BreaksAnswer {
+            status,
+            offset,
+            attributes,
+            estimates,
+            slider_breaks
         }
     );
     layouts
@@ -331,13 +343,24 @@ fn constants_are_the_header_s() {
         ("WITHOUT_SLIDER_ACC", origin(Origin::WithoutSliderAcc)),
     ];
     let origins = origins.map(|(name, number)| (name.to_owned(), number));
+    let refusals = [("FACTOR".to_owned(), factor_refusal())];
     let mut text = String::from("#include <stdio.h>\nint main(void) {\n");
     let mut due = String::new();
-    for (name, number) in mods.iter().chain(&origins) {
+    for (name, number) in mods.iter().chain(&origins).chain(&refusals) {
         text += &format!("printf(\"%d\\n\", PJP_{name});\n");
         due += &format!("{number}\n");
     }
     let program = compile("constants", &(text + "return 0; }\n"), &[]);
     let output = Command::new(program).output().unwrap().stdout;
     assert_eq!(String::from_utf8(output).unwrap(), due);
+}
+
+/// What the library answers to a factor out of range.
+fn factor_refusal() -> u16 {
+    let factors = SliderFactors {
+        aim: 10.5,
+        speed: 0.0,
+    };
+    let given = Map::default().score_play_breaks(&Play::default(), &factors);
+    given.unwrap_err().number().into()
 }

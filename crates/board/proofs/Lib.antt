@@ -6,3 +6,4 @@ pub mod Binds
 pub mod Edits
 pub mod Searches
 pub mod Readings
+pub mod Numbers

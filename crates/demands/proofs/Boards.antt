@@ -24,12 +24,15 @@ use Rattle.encoding.specs.Limits.{Each, one, ObjectWithin, MapWithin}
 use Rattle.encoding.proofs.FieldBytes.{fields-length}
 use Rattle.encoding.proofs.RoundTrip.{object-back}
 use Rattle.simulator.specs.Attributes.{scoreAttributesAt}
-use Rattle.simulator.specs.declared.attributes.ScoreAttributes.{ScoreAttributes}
 use Rattle.play_score.specs.PlayRules.{givenAnswer, givenScore}
 use Rattle.play_score.specs.declared.PlayScore.{PlayScore}
 use Rattle.play_score.specs.declared.GivenPlay.the-variants as given
+use Rattle.slider_breaks.specs.Given.{withBreaks}
+use Rattle.slider_breaks.specs.declared.calculator.SliderFactors.{SliderFactors}
+use Rattle.slider_breaks.specs.Given as breaks
+use Rattle.slider_breaks.proofs.Laws.{other-number}
 use Rattle.scoring.specs.Scores.{Outcome, Scores, scoresOf}
-use Rattle.scoring.proofs.Rules.{Ruled, fine, rule, ruled-bind, ruled-when, ruled-object, ruled-score-of, two, three, eight}
+use Rattle.scoring.proofs.Rules.{Ruled, fine, rule, ruled-bind, ruled-when, ruled-object, ruled-given, two, three}
 use Rattle.entries.specs.Entry.{entryOf, placeWords}
 use Rattle.tree.specs.Size.{levelsOf, capOf}
 use Rattle.tree.specs.Put.{climbed}
@@ -38,12 +41,13 @@ use Rattle.tree.proofs.Levels.{levels-hold}
 use Rattle.tree.proofs.Touched.{OthersKept, only-covering, few-cover}
 use Rattle.board.specs.Place.{roomFor, putPlace, writtenLeft}
 use Rattle.board.specs.Edit.{objectOnly, objectIn, editOf}
+use Rattle.board.specs.Read.{readOf}
 use Rattle.board.specs.declared.place.Written.{Written}
 use Rattle.board.specs.declared.place.Written.the-variants as written
 use Rattle.board.proofs.Binds.{bound, passed}
 use Rattle.board.proofs.Rooms as rooms
 use Rattle.board_build.specs.Build.{buildOf, built}
-use Rattle.demands.specs.Calls.{isAccepted, changed, timesOf, lentFor, edit, read, edits, reads, answer, lentAfter, putIfAccepted, recordAnswer, AcceptedMap}
+use Rattle.demands.specs.Calls.{isAccepted, changed, timesOf, lentFor, edit, read, read-breaks, edits, reads, reads-breaks, answer, lentAfter, putIfAccepted, recordAnswer, AcceptedMap}
 use Rattle.demands.proofs.Maps.{within-accepted, within-scored, accepted-is-within}
 use Rattle.demands.proofs.EditRight.{edit-right}
 use Rattle.demands.proofs.ReadRight.{read-right}
@@ -168,20 +172,26 @@ never-13-edit m words numbers place r a e =
     go true (refused n) (rule is) h = let s : n ≡ 13 = cc in absurd (omega (arith, s, is .1))
     go true (good o) k h = accepts (isAccepted (changed m place o)) h
 
-score-ruled : (p : Play) (a : ScoreAttributes) → Ruled (givenScore p a)
-unfolding givenScore
-score-ruled p a = ruled-when 8 _ _ eight (ruled-score-of p a)
-
 pub never-13-read : (m : Map) (words : List ℕ) (numbers : List Float) (p : Play) → AcceptedMap m
     → answer (read (length (m .objects)) (m .settings) (timesOf (m .breaks)) p) (lentFor m words numbers) ≢ reads (given.Refused 13 0)
 unfolding answer
 never-13-read m words numbers p a e =
-    go (givenScore p (scoreAttributesAt m (p .«passed_objects»))) (score-ruled p (scoreAttributesAt m (p .«passed_objects»)))
+    go (givenScore p (scoreAttributesAt m (p .«passed_objects»))) (ruled-given p (scoreAttributesAt m (p .«passed_objects»)))
     (sym (ap (λ (x : Checked PlayScore). reads (givenAnswer x)) (read-right m words numbers p (accepted-is-within m a))) ∙ e)
   where
     go : (x : Checked PlayScore) → Ruled x → reads (givenAnswer x) ≢ reads (given.Refused 13 0)
     go (refused n) (rule is) h = let s : n ≡ 13 = cc in absurd (omega (arith, s, is .1))
     go (good s) k h = never (cc)
+
+-- nor does one with factors, which add 14 alone
+pub never-13-read-breaks : (m : Map) (words : List ℕ) (numbers : List Float) (p : Play) (f : SliderFactors) → AcceptedMap m
+    → answer (read-breaks (length (m .objects)) (m .settings) (timesOf (m .breaks)) p f) (lentFor m words numbers) ≢ reads-breaks (breaks.Refused 13 0)
+unfolding answer
+never-13-read-breaks m words numbers p f a e =
+    let l = lentFor m words numbers in
+    let read-of = givenAnswer (readOf (l .board) (l .starts) (length (m .objects)) (m .settings) (timesOf (m .breaks)) p) in
+    let refused-with : withBreaks p f read-of ≡ breaks.Refused 13 0 = cc in
+    never-13-read m words numbers p a (ap reads (other-number p f read-of 13 0 (λ k. omega (arith, k)) refused-with))
 
 -- ---- a build of an accepted map
 -- an accepted map, with room for it, is built: the call is done and leaves the map's board and start table, with what lies beyond them as it

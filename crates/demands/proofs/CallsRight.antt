@@ -16,12 +16,15 @@ use Rattle.play_state.specs.declared.Play.{Play}
 use Rattle.records.specs.Objects.{Object, bonus}
 use Rattle.records.specs.declared.beatmap.Settings.{Settings}
 use Rattle.map_file.specs.File.{Map, fileOf}
-use Rattle.encoding.specs.Encoding.{mapFile}
+use Rattle.encoding.specs.Encoding.{mapFile, playBytes}
 use Rattle.encoding.specs.Limits.{ObjectWithin, MapWithin, PlaySized}
 use Rattle.simulator.specs.Attributes.{scoreAttributesAt}
 use Rattle.play_score.specs.PlayRules.{givenAnswer, givenScore}
 use Rattle.play_score.specs.declared.PlayScore.{PlayScore}
-use Rattle.scoring.specs.Scores.{Outcome, refusal, values, at-offset, then, Scores, scoresOf}
+use Rattle.play_score.specs.declared.GivenPlay.{GivenPlay}
+use Rattle.slider_breaks.specs.Given.{withBreaks}
+use Rattle.slider_breaks.specs.declared.calculator.SliderFactors.{SliderFactors}
+use Rattle.scoring.specs.Scores.{Outcome, refusal, values, at-offset, then, Scores, scoresOf, givenPlayOf}
 use Rattle.scoring.proofs.Answers.{no-number, values-within}
 use Rattle.scoring.proofs.Behind.{behind-map}
 use Rattle.entries.specs.Entry.{placeWords}
@@ -33,8 +36,8 @@ use Rattle.board.specs.declared.place.Written.{Written}
 use Rattle.board.specs.declared.place.Written.the-variants as written
 use Rattle.board.proofs.Edits as edits
 use Rattle.board_build.specs.Build.{buildOf, built}
-use Rattle.demands.specs.Calls.{isAccepted, AcceptedMap, changed, timesOf, mapIn, Lent, lentFor, Call, edit, read, edits as answered, reads, answer, lentAfter, putIfAccepted, mapAfter, fromFile, ReadAnswer, IsRefused, Stands, MayStand, Answers, Right, lentBy, Claim}
-use Rattle.demands.proofs.Maps.{accepted-is-within, within-is-accepted, changed-within, by-bonus}
+use Rattle.demands.specs.Calls.{isAccepted, AcceptedMap, changed, timesOf, mapIn, Lent, lentFor, Call, edit, read, read-breaks, edits as answered, reads, reads-breaks, answer, lentAfter, putIfAccepted, mapAfter, fromFile, ReadAnswer, ReadBreaksAnswer, IsRefused, Stands, MayStand, Answers, Right, lentBy, Claim}
+use Rattle.demands.proofs.Maps.{within-scored, accepted-is-within, within-is-accepted, changed-within, by-bonus}
 use Rattle.demands.proofs.EditRight.{edit-right}
 use Rattle.demands.proofs.ReadRight.{read-right}
 
@@ -77,6 +80,18 @@ from-file : (m : Map) (at : ℕ) (x : Checked PlayScore)
 from-file m at (refused n) = refl
 from-file m at (good s) = refl
 
+in-file : (m : Map) → MapWithin m → (p : Play) → PlaySized p
+    → fromFile (scoresOf (fileOf (mapFile m ++ playBytes p))) ≡ givenAnswer (givenScore p (scoreAttributesAt m (p .«passed_objects»)))
+in-file m w p v = ap fromFile (behind-map m p w v) ∙ from-file m (length (mapFile m)) (givenScore p (scoreAttributesAt m (p .«passed_objects»)))
+
+-- what holds of a read with the map's count, settings and breaks
+own-arguments : (m : Map) (P : ℕ → Settings → List Float → Type 0) (n : ℕ) (s : Settings) (br : List Float)
+    → P (length (m .objects)) (m .settings) (timesOf (m .breaks)) → n ≡ length (m .objects) → s ≡ m .settings → br ≡ timesOf (m .breaks) → P n s br
+own-arguments m P n s br own count settings breaks =
+    subst (λ (k : ℕ). P k s br) (sym count)
+    (subst (λ (x : Settings). P (length (m .objects)) x br) (sym settings)
+    (subst (λ (x : List Float). P (length (m .objects)) (m .settings) x) (sym breaks) own))
+
 module _ (words : List ℕ) (numbers : List Float) where
   abbrev Steps : Call → Map → Type 0
   Steps c m =
@@ -89,17 +104,32 @@ module _ (words : List ℕ) (numbers : List Float) where
   unfolding answer
   read-answer m w p v =
       let scored = ap (λ (x : Checked PlayScore). reads (givenAnswer x)) (read-right m words numbers p w) in
-      let file = ap fromFile (behind-map m p w v) ∙ from-file m (length (mapFile m)) (givenScore p (scoreAttributesAt m (p .«passed_objects»))) in
-      record { as-in-file = scored ∙ ap reads (sym file); as-scored = scored }
+      record { as-in-file = scored ∙ ap reads (sym (in-file m w p v)); as-scored = scored }
 
   read-steps : (n : ℕ) (s : Settings) (br : List Float) (p : Play) (m : Map) → MapWithin m → Steps (read n s br p) m
   unfolding lentAfter mapAfter
   read-steps n s br p m w = (
     λ count settings breaks v.
-        subst (λ (k : ℕ). ReadAnswer m p (answer (read k s br p) (lentFor m words numbers))) (sym count)
-        (subst (λ (x : Settings). ReadAnswer m p (answer (read (length (m .objects)) x br p) (lentFor m words numbers))) (sym settings)
-        (subst (λ (x : List Float). ReadAnswer m p (answer (read (length (m .objects)) (m .settings) x p) (lentFor m words numbers))) (sym breaks)
-        (read-answer m w p v))),
+        own-arguments m (λ k x y. ReadAnswer m p (answer (read k x y p) (lentFor m words numbers))) n s br (read-answer m w p v) count settings breaks,
+    refl,
+    w,
+  )
+
+  read-breaks-answer : (m : Map) → MapWithin m → (p : Play) → PlaySized p → (f : SliderFactors)
+      → ReadBreaksAnswer m p f (answer (read-breaks (length (m .objects)) (m .settings) (timesOf (m .breaks)) p f) (lentFor m words numbers))
+  unfolding answer
+  read-breaks-answer m w p v f =
+      let scored = ap (λ (x : Checked PlayScore). reads-breaks (withBreaks p f (givenAnswer x))) (read-right m words numbers p w) in
+      record {
+        as-in-file = scored ∙ ap (λ (x : GivenPlay). reads-breaks (withBreaks p f x)) (sym (in-file m w p v));
+        as-called = scored ∙ ap (λ (x : Outcome Scores). reads-breaks (withBreaks p f (givenPlayOf p x))) (sym (within-scored m w));
+      }
+
+  read-breaks-steps : (n : ℕ) (s : Settings) (br : List Float) (p : Play) (f : SliderFactors) (m : Map) → MapWithin m → Steps (read-breaks n s br p f) m
+  unfolding lentAfter mapAfter
+  read-breaks-steps n s br p f m w = (
+    λ count settings breaks v.
+        own-arguments m (λ k x y. ReadBreaksAnswer m p f (answer (read-breaks k x y p f) (lentFor m words numbers))) n s br (read-breaks-answer m w p v f) count settings breaks,
     refl,
     w,
   )
@@ -145,6 +175,7 @@ module _ (words : List ℕ) (numbers : List Float) where
   call-steps : (c : Call) (m : Map) → MapWithin m → Stands c m (lentFor m words numbers) → Steps c m
   call-steps (edit n place r) m w s = edit-steps n place r m w s
   call-steps (read n s br p) m w _ = read-steps n s br p m w
+  call-steps (read-breaks n s br p f) m w _ = read-breaks-steps n s br p f m w
 
   -- a list of calls on the board of a map within the limits
   pub list-right : (cs : List Call) (m : Map) → MapWithin m → MayStand cs m (lentFor m words numbers) → Right words numbers cs m (lentFor m words numbers)

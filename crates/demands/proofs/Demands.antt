@@ -27,7 +27,12 @@ use Rattle.simulator.proofs.Exact.{rustSpinnerScore}
 use Rattle.estimates.specs.Effective.{estimatesOf}
 use Rattle.estimates.proofs.Range.{FromMissesToJudgements}
 use Rattle.play_score.specs.declared.GivenPlay.the-variants as given
-use Rattle.scoring.specs.Scores.{refusal, values, Scores, scoresOf}
+use Rattle.play_score.specs.PlayRules.{givenAnswer}
+use Rattle.slider_breaks.specs.Given.{BreaksScore, withBreaks}
+use Rattle.slider_breaks.specs.declared.calculator.SliderFactors.{SliderFactors}
+use Rattle.slider_breaks.proofs.Range.{BreaksInRange}
+use Rattle.slider_breaks.specs.Given as breaks
+use Rattle.scoring.specs.Scores.{refusal, values, Scores, scoresOf, givenPlayOf}
 use Rattle.scoring.proofs.Answers.{no-number}
 use Rattle.scoring.proofs.Rules.{IsRule, refusal-rule}
 use Rattle.entries.specs.Entry.{placeWords}
@@ -40,10 +45,12 @@ use Rattle.board_build.specs.Build.{built}
 use Rattle.listing.specs.Listing.{inputText, listedOf}
 use Rattle.listing.specs.declared.Listed.the-variants as listed
 use Rattle.listing.proofs.Fits.{listing-told}
-use Rattle.demands.specs.Calls.{isAccepted, AcceptedMap, changed, timesOf, mapIn, lentFor, lentBy, Call, edit, read, edits, reads, answer, mapAfterAll, lentAfterAll, MayStand, Claim}
-use Rattle.demands.proofs.Refusals.{Numbered, edit-numbered, read-numbered, effective-of-a-play}
+use Rattle.demands.specs.Calls.{isAccepted, AcceptedMap, changed, timesOf, mapIn, lentFor, lentBy, Call, edit, read, read-breaks, edits, reads, reads-breaks, answer, mapAfterAll, lentAfterAll, MayStand, Claim}
+use Rattle.board.proofs.Numbers.{Numbered, read-numbered}
+use Rattle.demands.proofs.Refusals.{edit-numbered, BreaksNumbered, play-breaks-numbered, read-breaks-numbered, effective-of-a-play}
 use Rattle.demands.proofs.Files.{scoredPlays, plays-are-scored, RulesKept, only-when-kept, when-kept}
 use Rattle.demands.proofs.Exactness.{combo-points-exact, spinner-score-exact}
+use Rattle.demands.proofs.BreaksRange.{breaks-of-a-play}
 use Rattle.demands.proofs.Maps.{within-scored, accepted-is-within, within-is-accepted, accepted-gets-none}
 use Rattle.demands.proofs.CallsRight.{edit-accepts, calls-right}
 use Rattle.demands.proofs.Boards.{Leads, Touches, build-is-done}
@@ -66,6 +73,14 @@ refused-edit-by-a-rule = edit-numbered
 
 pub refused-read-by-a-rule : (b : List ℕ) (ts : List Float) (n : ℕ) (s : Settings) (br : List Float) (p : Play) → Numbered (readOf b ts n s br p)
 refused-read-by-a-rule = read-numbered
+
+-- with factors a refusal has a number from 2 to 14: of the call on a file, and of a read of any lent memory
+pub refused-play-breaks-by-a-rule : (s : List ℕ) (p : Play) (f : SliderFactors) → BreaksNumbered (withBreaks p f (givenPlayOf p (scoresOf (fileOf s))))
+refused-play-breaks-by-a-rule = play-breaks-numbered
+
+pub refused-read-breaks-by-a-rule : (b : List ℕ) (ts : List Float) (n : ℕ) (s : Settings) (br : List Float) (p : Play) (f : SliderFactors)
+    → BreaksNumbered (withBreaks p f (givenAnswer (readOf b ts n s br p)))
+refused-read-breaks-by-a-rule = read-breaks-numbered
 
 -- "one that breaks none gets none": a file that gets no number keeps the limits of every rule, and every map within them has a file that gets none
 pub accepted-keeps-the-rules : (s : List ℕ) (sc : Scores) → scoresOf (fileOf s) ≡ values sc → MapWithin (sc .map)
@@ -100,6 +115,11 @@ values-are-the-definition's s sc e =
 -- the effective miss count lies from the misses to the judgements, whatever the attributes
 pub effective-misses-in-range : (p : Play) (a : OsuDifficultyAttributes) → HitsWithin (p .hitresults) → FromMissesToJudgements (estimatesOf p a .effective) (p .hitresults)
 effective-misses-in-range = effective-of-a-play
+
+-- document 02, §1: on every accepted play each of the two estimates of slider breaks lies from 0 to the play's 100s
+pub slider-breaks-in-range : (s : List ℕ) (p : Play) (f : SliderFactors) (b : BreaksScore)
+    → withBreaks p f (givenPlayOf p (scoresOf (fileOf s))) ≡ breaks.Score b → BreaksInRange (b .slider-breaks) (p .hitresults .n100)
+slider-breaks-in-range = breaks-of-a-play
 
 -- "These products are exact; no cast saturates": for every accepted map and passed count, the Rust's float products and sums are the whole numbers of
 -- the definitions
@@ -167,3 +187,7 @@ never-13-edit = boards.never-13-edit
 pub never-13-read : (m : Map) (words : List ℕ) (numbers : List Float) (p : Play) → AcceptedMap m
     → answer (read (length (m .objects)) (m .settings) (timesOf (m .breaks)) p) (lentFor m words numbers) ≢ reads (given.Refused BOARD 0)
 never-13-read = boards.never-13-read
+
+pub never-13-read-breaks : (m : Map) (words : List ℕ) (numbers : List Float) (p : Play) (f : SliderFactors) → AcceptedMap m
+    → answer (read-breaks (length (m .objects)) (m .settings) (timesOf (m .breaks)) p f) (lentFor m words numbers) ≢ reads-breaks (breaks.Refused BOARD 0)
+never-13-read-breaks = boards.never-13-read-breaks

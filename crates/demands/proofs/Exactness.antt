@@ -15,7 +15,7 @@ use Rattle.ruleset.specs.Stars.{multiplierAt}
 use Rattle.ruleset.proofs.Drains.{multiplier-most}
 use Rattle.simulator.specs.Walk.{State, fresh, after, comboPoints}
 use Rattle.simulator.specs.Nested.{noObject, countedAll}
-use Rattle.simulator.specs.Attributes.{scoreAttributesAt, scoreAttributesOf, legacyAttributesOf}
+use Rattle.simulator.specs.Attributes.{scoreAttributesAt, scoreAttributesOf, legacyAttributesOf, difficultyAttributesOf}
 use Rattle.simulator.specs.View.{times}
 use Rattle.simulator.specs.declared.legacy_score.NestedScorePerObject.{NestedScorePerObject}
 use Rattle.simulator.proofs.Exact.{combo-exact, rustSpinnerScore, spinner-exact}
@@ -35,6 +35,17 @@ bonus-first zero os = omega arith
 bonus-first (suc p) [] = omega arith
 bonus-first (suc p) (o ∷ os) = let h = bonus-first p os in omega (arith, h)
 
+-- ---- the combo that they reach
+pub combo-most : (m : Map) (p : ℕ) → MapWithin m → scoreAttributesAt m p .difficulty .«max_combo» ≤ maxCombo
+unfolding scoreAttributesAt scoreAttributesOf difficultyAttributesOf
+combo-most m p w =
+    let os = take p (m .objects) in
+    let sums = passed-within p maxObjects (m .objects) (w .few-objects) (omega arith) (each-few (m .objects) (w .objects)) in
+    let same : after (multiplierAt m p) fresh os ≡ times (multiplierAt m p) (after 1 fresh os) =
+    ap (λ (st : State). after (multiplierAt m p) st os) (fresh-times (multiplierAt m p)) ∙ after-times (multiplierAt m p) fresh os in
+    let combo = ap (λ (st : State). st .combo) same in
+    omega (arith, combo, sums .combo)
+
 module _ (m : Map) (p : ℕ) (a : AcceptedMap m) where
   abbrev os : List Object
   os = take p (m .objects)
@@ -44,13 +55,8 @@ module _ (m : Map) (p : ℕ) (a : AcceptedMap m) where
 
   -- ---- combo points
   max-combo : scoreAttributesAt m p .legacy .«max_combo» ≤ maxCombo
-  unfolding scoreAttributesAt scoreAttributesOf legacyAttributesOf
-  max-combo =
-      let sums = passed-within p maxObjects (m .objects) (w .few-objects) (omega arith) (each-few (m .objects) (w .objects)) in
-      let same : after (multiplierAt m p) fresh os ≡ times (multiplierAt m p) (after 1 fresh os) =
-      ap (λ (st : State). after (multiplierAt m p) st os) (fresh-times (multiplierAt m p)) ∙ after-times (multiplierAt m p) fresh os in
-      let combo = ap (λ (st : State). st .combo) same in
-      omega (arith, combo, sums .combo)
+  unfolding scoreAttributesAt scoreAttributesOf legacyAttributesOf difficultyAttributesOf
+  max-combo = combo-most m p w
 
   -- `(factor * multiplier) as i32` of a 300 at any combo that the passed objects reach
   pub combo-points-exact : (c : ℕ) → c ≤ scoreAttributesAt m p .legacy .«max_combo»

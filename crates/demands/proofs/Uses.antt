@@ -1,9 +1,9 @@
 -- The theorems of Demands in use: what follows from them in a step or two, by their statements alone, so that a weaker one would not give it. The claim
 -- over lists is used in ListUse. Assumes nothing.
 use mathlib.Core.Bool.{true}
-use mathlib.Core.List.{List, []}
+use mathlib.Core.List.{List, [], _∷_}
 use mathlib.Core.Logic.{_≢_}
-use mathlib.Core.Path.{_≡_, sym, ap, _∙_, subst}
+use mathlib.Core.Path.{_≡_, refl, sym, ap, _∙_, subst}
 use Prim.Native.Nat.{ℕ, _*_, _-_, _/_, _^_, _≤_, _<_}
 use native.Mathlib.Nat.{le-div-iff-mul-le}
 use native.Mathlib.Omega.{arith}
@@ -18,7 +18,7 @@ use Rattle.records.specs.Objects.{Object}
 use Rattle.records.specs.declared.beatmap.Settings.{Settings}
 use Rattle.map_file.specs.File.{Map, fileOf}
 use Rattle.encoding.specs.Encoding.{objectBytes, mapFile}
-use Rattle.encoding.specs.Limits.{MapWithin, HitsWithin}
+use Rattle.encoding.specs.Limits.{MapWithin, HitsWithin, PlaySized}
 use Rattle.encoding.proofs.RoundTrip.{bare}
 use Rattle.ruleset.specs.Stars.{multiplierAt}
 use Rattle.simulator.specs.Nested.{noObject, countedAll}
@@ -29,7 +29,12 @@ use Rattle.simulator.proofs.Exact.{rustSpinnerScore}
 use Rattle.miss_calc.specs.Counts.{totalHits}
 use Rattle.estimates.specs.Effective.{estimatesOf}
 use Rattle.play_score.specs.declared.GivenPlay.the-variants as given
-use Rattle.scoring.specs.Scores.{refusal, values, Scores, scoresOf}
+use Rattle.play_score.specs.PlayRules.{givenAnswer}
+use Rattle.slider_breaks.specs.Given.{BreaksScore, GivenBreaks, withBreaks}
+use Rattle.slider_breaks.specs.declared.calculator.SliderFactors.{SliderFactors}
+use Rattle.slider_breaks.proofs.Range.{BreaksInRange}
+use Rattle.slider_breaks.specs.Given as breaks
+use Rattle.scoring.specs.Scores.{refusal, values, Scores, scoresOf, givenPlayOf}
 use Rattle.entries.specs.Entry.{placeWords}
 use Rattle.entries.specs.Words.{entryAt}
 use Rattle.tree.specs.Board.{Covers, own, left, right}
@@ -42,11 +47,12 @@ use Rattle.board_build.specs.Build.{built}
 use Rattle.listing.specs.Listing.{inputText, listedOf}
 use Rattle.listing.specs.declared.Listed.{Listed}
 use Rattle.listing.specs.declared.Listed.the-variants as listed
-use Rattle.demands.specs.Calls.{isAccepted, AcceptedMap, changed, timesOf, mapIn, lentFor, lentBy, Call, edit, read, edits, reads, answer, lentAfter, mapAfterAll, lentAfterAll, MayStand}
-use Rattle.demands.proofs.Refusals.{Numbered, value, number}
+use Rattle.demands.specs.Calls.{isAccepted, AcceptedMap, changed, timesOf, mapIn, lentFor, lentBy, Call, edit, read, read-breaks, edits, reads, reads-breaks, answer, lentAfter, mapAfterAll, lentAfterAll, MayStand}
+use Rattle.board.proofs.Numbers.{Numbered, value, number}
+use Rattle.demands.proofs.Refusals.{BreaksNumbered, scored, numbered}
 use Rattle.demands.proofs.Files.{scoredPlays}
 use Rattle.demands.proofs.Boards.{Leads}
-use Rattle.demands.proofs.Demands.{every-listing-fits, refused-by-a-rule, refused-edit-by-a-rule, refused-read-by-a-rule, accepted-keeps-the-rules, keeping-the-rules-is-accepted, no-number-only-when-the-rules-are-kept, no-number-when-the-rules-are-kept, every-combo-product-is-exact, values-are-the-definition's, effective-misses-in-range, every-spinner-sum-is-exact, accepted-maps-are-within, accepted-map-gets-no-number, every-accepted-map-is-built, maps-within-are-accepted, left-by-every-list, changed-map-accepted, one-edit-leads, edit-touches-only, never-13-edit, never-13-read}
+use Rattle.demands.proofs.Demands.{every-listing-fits, refused-by-a-rule, refused-edit-by-a-rule, refused-read-by-a-rule, refused-play-breaks-by-a-rule, refused-read-breaks-by-a-rule, accepted-keeps-the-rules, keeping-the-rules-is-accepted, no-number-only-when-the-rules-are-kept, no-number-when-the-rules-are-kept, every-combo-product-is-exact, values-are-the-definition's, effective-misses-in-range, slider-breaks-in-range, every-list-of-calls, every-spinner-sum-is-exact, accepted-maps-are-within, accepted-map-gets-no-number, every-accepted-map-is-built, maps-within-are-accepted, left-by-every-list, changed-map-accepted, one-edit-leads, edit-touches-only, never-13-edit, never-13-read, never-13-read-breaks}
 
 -- ---- Demand 1
 -- no listing is cut
@@ -78,6 +84,22 @@ no-edit-gets-0 b ts n place r = not-0 (editOf b ts n place r) (refused-edit-by-a
 no-read-gets-0 : (b : List ℕ) (ts : List Float) (n : ℕ) (s : Settings) (br : List Float) (p : Play) → readOf b ts n s br p ≢ refused 0
 no-read-gets-0 b ts n s br p = not-0 (readOf b ts n s br p) (refused-read-by-a-rule b ts n s br p)
 
+-- with factors neither 1, which is the program's own, nor 15, which would be a heat's
+abbrev breaksNumber : GivenBreaks → ℕ
+breaksNumber (breaks.Score s) = 2
+breaksNumber (breaks.Refused n at) = n
+
+between : (x : GivenBreaks) → BreaksNumbered x → (2 ≤ breaksNumber x) × (breaksNumber x ≤ 14)
+between (breaks.Score s) scored = (omega arith, omega arith)
+between (breaks.Refused n at) (numbered l h) = (l, h)
+
+no-play-with-factors-gets-1 : (s : List ℕ) (p : Play) (f : SliderFactors) (at : ℕ) → withBreaks p f (givenPlayOf p (scoresOf (fileOf s))) ≢ breaks.Refused 1 at
+no-play-with-factors-gets-1 s p f at e = omega (arith, between _ (refused-play-breaks-by-a-rule s p f) .0, ap breaksNumber e)
+
+no-read-with-factors-gets-15 : (b : List ℕ) (ts : List Float) (n : ℕ) (s : Settings) (br : List Float) (p : Play) (f : SliderFactors) (at : ℕ)
+    → withBreaks p f (givenAnswer (readOf b ts n s br p)) ≢ breaks.Refused 15 at
+no-read-with-factors-gets-15 b ts n s br p f at e = omega (arith, between _ (refused-read-breaks-by-a-rule b ts n s br p f) .1, ap breaksNumber e)
+
 -- the map of an accepted file, without the file's plays, has a file that is accepted
 map-alone : (s : List ℕ) (sc : Scores) → scoresOf (fileOf s) ≡ values sc → scoresOf (fileOf (mapFile (sc .map))) ≡ values (record { map = sc .map; plays = [] })
 map-alone s sc e = keeping-the-rules-is-accepted (sc .map) (accepted-keeps-the-rules s sc e)
@@ -104,6 +126,14 @@ nothing-judged p a w e =
       subst (λ (n : ℕ). le (whole n) (estimatesOf p a .effective) ≡ true) none (range .above),
       subst (λ (n : ℕ). le (estimatesOf p a .effective) (whole n) ≡ true) e (range .below),
     )
+
+-- a play without a 100 is told of no slider break
+no-100-no-break : (s : List ℕ) (p : Play) (f : SliderFactors) (b : BreaksScore) → withBreaks p f (givenPlayOf p (scoresOf (fileOf s))) ≡ breaks.Score b
+    → p .hitresults .n100 ≡ 0 → (le (whole 0) (b .slider-breaks .aim) ≡ true) × (le (b .slider-breaks .aim) (whole 0) ≡ true) × (le (whole 0) (b .slider-breaks .speed) ≡ true) × (le (b .slider-breaks .speed) (whole 0) ≡ true)
+no-100-no-break s p f b e none =
+    let range = slider-breaks-in-range s p f b e in
+    let most : (x : Float) → le x (whole (p .hitresults .n100)) ≡ true → le x (whole 0) ≡ true = λ x. subst (λ (n : ℕ). le x (whole n) ≡ true) none in
+    (range .aim .above, most _ (range .aim .below), range .speed .above, most _ (range .speed .below))
 
 -- two accepted maps whose spinners count the same have the same sum in the Rust
 same-spinner-sum : (m m′ : Map) (p : ℕ) → AcceptedMap m → AcceptedMap m′
@@ -170,6 +200,30 @@ no-13-read s b ts cs p d h e =
     let left = left-by-every-list s b ts cs d h in
     let m = mapAfterAll cs (mapIn (fileOf s)) in
     never-13-read m _ _ p (left .0) (sym (ap (λ l. answer (read (length (m .objects)) (m .settings) (timesOf (m .breaks)) p) l) (left .1)) ∙ e)
+
+no-13-read-breaks : (s : List ℕ) (b : List ℕ) (ts : List Float) (cs : List Call) (p : Play) (f : SliderFactors)
+    → built (scoresOf (fileOf s)) b ts .0 ≡ written.Done
+    → MayStand cs (mapIn (fileOf s)) (lentBy s b ts)
+    → answer (read-breaks (length (mapAfterAll cs (mapIn (fileOf s)) .objects)) (mapAfterAll cs (mapIn (fileOf s)) .settings) (timesOf (mapAfterAll cs (mapIn (fileOf s)) .breaks)) p f) (lentAfterAll cs (lentBy s b ts))
+    ≢ reads-breaks (breaks.Refused BOARD 0)
+no-13-read-breaks s b ts cs p f d h e =
+    let left = left-by-every-list s b ts cs d h in
+    let m = mapAfterAll cs (mapIn (fileOf s)) in
+    never-13-read-breaks m _ _ p f (left .0) (sym (ap (λ l. answer (read-breaks (length (m .objects)) (m .settings) (timesOf (m .breaks)) p f) l) (left .1)) ∙ e)
+
+-- the slider breaks that a read of a built board gives are in their range too: the claim says that it gives what the file's call gives
+read-breaks-in-range : (s : List ℕ) (b : List ℕ) (ts : List Float) (p : Play) (f : SliderFactors) (x : BreaksScore) → built (scoresOf (fileOf s)) b ts .0 ≡ written.Done
+    → PlaySized p
+    → answer (read-breaks (length (mapIn (fileOf s) .objects)) (mapIn (fileOf s) .settings) (timesOf (mapIn (fileOf s) .breaks)) p f) (lentBy s b ts) ≡ reads-breaks (breaks.Score x)
+    → BreaksInRange (x .slider-breaks) (p .hitresults .n100)
+read-breaks-in-range s b ts p f x d sized e =
+    let m = mapIn (fileOf s) in
+    let call = read-breaks (length (m .objects)) (m .settings) (timesOf (m .breaks)) p f in
+    let told = every-list-of-calls s b ts (call ∷ []) d (tt, tt) .0 refl refl refl sized .as-called in
+    slider-breaks-in-range (mapFile m) p f x (breaks-told (sym told ∙ e))
+  where
+    breaks-told : {u v : GivenBreaks} → reads-breaks u ≡ reads-breaks v → u ≡ v
+    breaks-told q = cc
 
 -- entry 0, which covers no place, and the words behind the board are as they were
 no-covers-0 : (c p : ℕ) → 1 ≤ c → Covers c 0 p → ⊥

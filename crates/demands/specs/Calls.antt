@@ -1,4 +1,5 @@
--- Document 01, "Lists of calls": demand 3, "a single claim about the whole list, and not one for each call". Each definition cites its sentence.
+-- Document 01, "Lists of calls": demand 3, "a single claim about the whole list, and not one for each call". Each definition cites its sentence; the
+-- read with factors is that of document 02, §1.
 use Prim.Native.Nat.{ℕ, _*_}
 use mathlib.Core.Path.{_≡_}
 use mathlib.Core.Logic.{_⊎_}
@@ -18,10 +19,12 @@ use Rattle.encoding.specs.Encoding.{mapFile, playBytes}
 use Rattle.encoding.specs.Limits.{PlaySized}
 use Rattle.simulator.specs.Attributes.{scoreAttributesAt}
 use Rattle.play_score.specs.PlayRules.{givenAnswer, givenScore}
-use Rattle.scoring.specs.Scores.{Outcome, refusal, values, Scores, scoresOf}
+use Rattle.scoring.specs.Scores.{Outcome, refusal, values, Scores, scoresOf, givenPlayOf}
 use Rattle.play_score.specs.declared.PlayScore.{PlayScore}
 use Rattle.play_score.specs.declared.GivenPlay.{GivenPlay}
 use Rattle.play_score.specs.declared.GivenPlay.the-variants as given
+use Rattle.slider_breaks.specs.Given.{GivenBreaks, withBreaks}
+use Rattle.slider_breaks.specs.declared.calculator.SliderFactors.{SliderFactors}
 use Rattle.tree.specs.Size.{capOf}
 use Rattle.tree.specs.Board.{boardOf, startsOf}
 use Rattle.board.specs.Place.{writtenLeft}
@@ -78,15 +81,19 @@ pub data Call : Type 0 where
   edit : ℕ → ℕ → List ℕ → Call
   -- object count, settings, breaks, play
   read : ℕ → Settings → List Float → Play → Call
+  -- the same with factors
+  read-breaks : ℕ → Settings → List Float → Play → SliderFactors → Call
 
 pub data CallAnswer : Type 0 where
   edits : Written → CallAnswer
   reads : GivenPlay → CallAnswer
+  reads-breaks : GivenBreaks → CallAnswer
 
 -- ---- what the calls do to any lent memory: their contracts
 unfoldable pub answer : Call → Lent → CallAnswer
 answer (edit n place r) l = edits (writtenLeft (editOf (l .board) (l .starts) n place r) (l .board) (l .starts) .0)
 answer (read n s br p) l = reads (givenAnswer (readOf (l .board) (l .starts) n s br p))
+answer (read-breaks n s br p f) l = reads-breaks (withBreaks p f (givenAnswer (readOf (l .board) (l .starts) n s br p)))
 
 -- "Each call gets the board and start table as the last one left them"
 unfoldable pub lentAfter : Call → Lent → Lent
@@ -95,6 +102,7 @@ lentAfter (edit n place r) l = record {
   starts = writtenLeft (editOf (l .board) (l .starts) n place r) (l .board) (l .starts) .2;
 }
 lentAfter (read n s br p) l = l
+lentAfter (read-breaks n s br p f) l = l
 
 -- ---- what they do to a map
 -- ".. puts that object there if the map so changed is accepted"
@@ -107,6 +115,7 @@ putIfAccepted m place (good o) = cond (isAccepted (changed m place o)) (changed 
 unfoldable pub mapAfter : Call → Map → Map
 mapAfter (edit n place r) m = cond (eqb n (length (m .objects)) && ltb place n) (putIfAccepted m place (objectIn r)) m
 mapAfter (read n s br p) m = m
+mapAfter (read-breaks n s br p f) m = m
 
 -- ---- what a whole list does: "the map as the list left it"
 abbrev pub mapAfterAll : List Call → Map → Map
@@ -141,6 +150,11 @@ pub record ReadAnswer (m : Map) (p : Play) (a : CallAnswer) : Type 0 where
   pub as-in-file : a ≡ reads (fromFile (scoresOf (fileOf (mapFile m ++ playBytes p))))
   pub as-scored : a ≡ reads (givenAnswer (givenScore p (scoreAttributesAt m (p .«passed_objects»))))
 
+-- a read with factors gives what the call with factors gives on the map's file, 14 included, and what a file with just that play gives, with factors
+pub record ReadBreaksAnswer (m : Map) (p : Play) (f : SliderFactors) (a : CallAnswer) : Type 0 where
+  pub as-in-file : a ≡ reads-breaks (withBreaks p f (fromFile (scoresOf (fileOf (mapFile m ++ playBytes p)))))
+  pub as-called : a ≡ reads-breaks (withBreaks p f (givenPlayOf p (scoresOf (fileOf (mapFile m)))))
+
 -- ---- the claim
 -- "An edit with an object count other than the map's may stand in the list only where it is refused; a read may be given a count, settings or
 -- breaks other than the map's"
@@ -148,10 +162,12 @@ abbrev pub IsRefused : CallAnswer → Type 0
 IsRefused (edits written.Done) = ⊥
 IsRefused (edits (written.Refused n at)) = Unit {0}
 IsRefused (reads a) = Unit {0}
+IsRefused (reads-breaks a) = Unit {0}
 
 abbrev pub Stands : Call → Map → Lent → Type 0
 Stands (edit n place r) m l = (n ≡ length (m .objects)) ⊎ IsRefused (answer (edit n place r) l)
 Stands (read n s br p) m l = Unit {0}
+Stands (read-breaks n s br p f) m l = Unit {0}
 
 abbrev pub MayStand : List Call → Map → Lent → Type 0
 MayStand [] m l = Unit {0}
@@ -163,6 +179,8 @@ abbrev pub Answers : Call → Map → Lent → Type 0
 Answers (edit n place r) m l = n ≡ length (m .objects) → answer (edit n place r) l ≡ edits (editAnswer m place r)
 Answers (read n s br p) m l =
     n ≡ length (m .objects) → s ≡ m .settings → br ≡ timesOf (m .breaks) → PlaySized p → ReadAnswer m p (answer (read n s br p) l)
+Answers (read-breaks n s br p f) m l =
+    n ≡ length (m .objects) → s ≡ m .settings → br ≡ timesOf (m .breaks) → PlaySized p → ReadBreaksAnswer m p f (answer (read-breaks n s br p f) l)
 
 -- every call answers right on the map as the calls before it left it, and at last the board and the start table are those of the map as the list
 -- left it, with what lay beyond them as it was

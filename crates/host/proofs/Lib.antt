@@ -1,1 +1,2 @@
 pub mod OutOfRange
+pub mod BreaksAdded

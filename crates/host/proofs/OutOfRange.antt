@@ -1,14 +1,14 @@
 -- A play that is out of range is refused with 8, where each call checks 8: what the comment of `playFrom` says of the flags 0xffff.
 use Prim.Native.Nat.{ℕ, _<_}
 use native.Mathlib.Omega.{arith}
-use mathlib.Core.Path.{_≡_, refl}
+use mathlib.Core.Path.{_≡_, refl, ap}
 use mathlib.Core.Bool.{true}
 use mathlib.Core.List.{List}
 use borrow.Author.Tests.{eq-eqb, ne-eqb}
 use lib.Dec.{ltb}
 use lib.Ieee.{Float}
 use lib.ListN.{length}
-use Rattle.rules.specs.Refusals.{refused, _>>_, refuse_when_}
+use Rattle.rules.specs.Refusals.{Checked, refused, _>>_, refuse_when_}
 use Rattle.play_state.specs.Play.{originOf, flagsBad}
 use Rattle.records.specs.declared.beatmap.Settings.{Settings}
 use Rattle.play_state.specs.declared.Origin.{Origin}
@@ -16,7 +16,11 @@ use Rattle.play_state.specs.declared.Origin.the-variants as origin
 use Rattle.play_state.specs.declared.Score.{Score}
 use Rattle.play_state.specs.declared.Score.the-variants as score
 use Rattle.simulator.specs.declared.attributes.ScoreAttributes.{ScoreAttributes}
-use Rattle.play_score.specs.PlayRules.{modsBad, givenScore}
+use Rattle.play_score.specs.PlayRules.{modsBad, givenAnswer, givenScore}
+use Rattle.play_score.specs.declared.PlayScore.{PlayScore}
+use Rattle.slider_breaks.specs.Given.{withBreaks}
+use Rattle.slider_breaks.specs.declared.calculator.SliderFactors.{SliderFactors}
+use Rattle.slider_breaks.specs.Given as breaks
 use Rattle.board.specs.Place.{roomFor}
 use Rattle.board.specs.Read.{argumentsBad, readOf}
 use Rattle.host.specs.Play.{playFrom, playIn}
@@ -57,6 +61,10 @@ module _ (p : HostPlay) where
     pub given-refused : (a : ScoreAttributes) → givenScore (playIn p) a ≡ refused 8
     unfolding givenScore _>>_ refuse_when_
     given-refused a = simp bad
+
+    -- with factors too, whatever they are
+    pub breaks-refused : (f : SliderFactors) (a : ScoreAttributes) → withBreaks (playIn p) f (givenAnswer (givenScore (playIn p) a)) ≡ breaks.Refused 8 0
+    breaks-refused f a = ap (λ (x : Checked PlayScore). withBreaks (playIn p) f (givenAnswer x)) (given-refused a)
 
     -- a play on a board: 6, 11 and 4 come first
     pub read-refused : (b : List ℕ) (ts : List Float) (n : ℕ) (s : Settings) (br : List Float) → readOf b ts n s br (playIn p) ≡ (refuse 6 when ltb 256 (length br) >> roomFor b ts n >> refuse 4 when argumentsBad s br >> refused 8)

@@ -172,7 +172,7 @@ fn play_answer_in(score: PlayScore) -> PlayAnswer
     }
 }
 
-fn play_answer_refused(number: u8, offset: usize) -> PlayAnswer
+pub fn play_answer_refused(number: u8, offset: usize) -> PlayAnswer
     ensures { λ r. ⌜ r ≡ playAnswerRefused number offset ⌝ }
 {
     PlayAnswer {

@@ -197,7 +197,7 @@ div-upto f (fin s m e) (fin false M E) n d a h p =
     turn : (a d n k : ℕ) → a * d * (n * k) ≡ a * k * (d * n)
     turn a d n k = ap (λ (z : ℕ). a * d * z) (mul-comm n k) ∙ mul-mul-mul-comm a d k n
 
-sum-is : (f : Format) (s t : Bool) (a b c : ℕ) → (T s → a ≡ 0) → (T t → b ≡ 0) → sum f s a t b c ≡ round f (s && t) (a + b) c
+pub sum-is : (f : Format) (s t : Bool) (a b c : ℕ) → (T s → a ≡ 0) → (T t → b ≡ 0) → sum f s a t b c ≡ round f (s && t) (a + b) c
 unfolding sum
 sum-is f true true a b c h k = refl
 sum-is f false false a b c h k = refl

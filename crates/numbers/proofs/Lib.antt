@@ -1,5 +1,7 @@
--- Laws on floats that belong to no one function: tests for a NaN, upper bounds through the operations, and exact whole numbers.
+-- Laws on floats that belong to no one function: tests for a NaN, bounds and intervals through the operations, and exact whole numbers.
 pub mod Bounds
 pub mod Nan
 pub mod Wholes
 pub mod Order
+pub mod Magnitudes
+pub mod Intervals

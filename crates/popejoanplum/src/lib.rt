@@ -10,6 +10,11 @@ use host::answer::PlayAnswer;
 use host::answer::given_answer_of;
 use host::answer::listed_answer_of;
 use host::answer::map_answer_of;
+use host::breaks::BreaksAnswer;
+use host::breaks::HostFactors;
+use host::breaks::added_by;
+use host::breaks::answer_with;
+use host::breaks::factors_in;
 use host::map::HostSettings;
 use host::map::MapInfo;
 use host::map::map_info_of;
@@ -37,6 +42,8 @@ ghost use Rattle.host.specs.Status.{boardWords, statusLeft};
 ghost use Rattle.host.specs.Map.{settingsIn, mapInfoOf};
 ghost use Rattle.host.specs.Play.{playIn};
 ghost use Rattle.host.specs.Answer.{mapAnswerOf, givenAnswerOf, listedAnswerOf};
+ghost use Rattle.slider_breaks.specs.Given.{withBreaks};
+ghost use Rattle.host.specs.Breaks.{factorsIn, breaksAnswerOf};
 
 // How many words a board for as many objects has; 0 where no map has as many.
 #[no_mangle]
@@ -71,6 +78,19 @@ pub extern "C" fn pjp_score_play(file: &[u8], play: HostPlay) -> PlayAnswer
     ensures { λ r. ⌜ r ≡ givenAnswerOf (givenPlayOf (playIn play) (scoresOf (fileOf (now (file .entry))))) ⌝ }
 {
     given_answer_of(score_play(file, play_in(play)))
+}
+
+// A play that is given beside the file, with its slider breaks.
+#[no_mangle]
+pub extern "C" fn pjp_score_play_breaks(
+    file: &[u8],
+    play: HostPlay,
+    factors: HostFactors,
+) -> BreaksAnswer
+    ensures { λ r. ⌜ r ≡ breaksAnswerOf (withBreaks (playIn play) (factorsIn factors) (givenPlayOf (playIn play) (scoresOf (fileOf (now (file .entry)))))) ⌝ }
+{
+    let answer = pjp_score_play(file, play);
+    answer_with(answer, added_by(play_in(play), factors_in(factors), answer))
 }
 
 // The play at an index of the file.
@@ -124,4 +144,22 @@ pub extern "C" fn pjp_read(
         breaks,
         play_in(play),
     ))
+}
+
+// A play on the first objects of a board for `count` objects, with its slider breaks.
+#[no_mangle]
+pub extern "C" fn pjp_read_breaks(
+    board: &[u64],
+    starts: &[f64],
+    count: usize,
+    settings: HostSettings,
+    breaks: &[f64],
+    play: HostPlay,
+    factors: HostFactors,
+) -> BreaksAnswer
+    ensures { λ r. ⌜ r ≡ breaksAnswerOf (withBreaks (playIn play) (factorsIn factors) (givenAnswer (readOf (now (board .entry)) (now (starts .entry)) count (settingsIn settings) (now (breaks .entry)) (playIn play)))) ⌝ }
+    ensures { λ _. ⌜ (now (board .exit) ≡ now (board .entry)) × (now (starts .exit) ≡ now (starts .entry)) × (now (breaks .exit) ≡ now (breaks .entry)) ⌝ }
+{
+    let answer = pjp_read(board, starts, count, settings, breaks, play);
+    answer_with(answer, added_by(play_in(play), factors_in(factors), answer))
 }

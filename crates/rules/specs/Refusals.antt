@@ -80,3 +80,8 @@ PLACE = 12
 -- 2 × sliders or its s + f below q"
 abbrev pub BOARD : ℕ
 BOARD = 13
+
+-- ---- document 02
+-- §1: "a factor out of range or not finite; checked last"
+abbrev pub FACTOR : ℕ
+FACTOR = 14

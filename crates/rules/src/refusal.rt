@@ -1,4 +1,4 @@
-// The numbers of document 01's rules; rules/specs/Refusals says when each is given.
+// The numbers of the rules of document 01, then of document 02; rules/specs/Refusals says when each is given.
 pub const INPUT: u8 = 1;
 
 pub const CUT: u8 = 2;
@@ -24,3 +24,5 @@ pub const ROOM: u8 = 11;
 pub const PLACE: u8 = 12;
 
 pub const BOARD: u8 = 13;
+
+pub const FACTOR: u8 = 14;

@@ -29,7 +29,7 @@ use Rattle.map_file.specs.File.{Map}
 use Rattle.map_file.proofs.Reading.{foundAt, found-sized, with-at}
 use Rattle.simulator.specs.Attributes.{scoreAttributesAt}
 use Rattle.simulator.specs.declared.attributes.ScoreAttributes.{ScoreAttributes}
-use Rattle.play_score.specs.PlayRules.{exceeds, overCombo, playScore}
+use Rattle.play_score.specs.PlayRules.{exceeds, overCombo, playScore, givenScore}
 use Rattle.scoring.specs.Scores.{Outcome, refusal, values, at-offset, then, playScoreOn, playScores, Scores, scoresOf}
 use Rattle.play_score.specs.declared.PlayScore.{PlayScore}
 
@@ -193,6 +193,11 @@ ruled-file s = ruled-from (suc (length s)) s nothingRead (omega arith)
 pub ruled-score-of : (p : Play) (a : ScoreAttributes) → Ruled (playScore p a)
 unfolding playScore
 ruled-score-of p a = ruled-when 9 _ _ nine (ruled-when 10 _ _ ten fine)
+
+-- of a play that is given beside its map
+pub ruled-given : (p : Play) (a : ScoreAttributes) → Ruled (givenScore p a)
+unfolding givenScore
+ruled-given p a = ruled-when 8 _ _ eight (ruled-score-of p a)
 
 data RuledOutcome {A : Type 0} : Outcome A → Type 0 where
   fine : {a : A} → RuledOutcome (values a)

@@ -31,8 +31,9 @@ fn name(call: &Call) -> &'static str {
     match call {
         Call::Build { .. } => "builds",
         Call::Edit { .. } => "edits",
-        Call::Read { is_own: true, .. } => "reads",
         Call::Read { is_own: false, .. } => "other reads",
+        Call::Read { factors: None, .. } => "reads",
+        Call::Read { .. } => "reads with factors",
         Call::Board => "boards",
     }
 }

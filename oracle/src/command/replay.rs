@@ -21,7 +21,9 @@ pub fn write(table: &str, seed: u64, count: u64, path: &str) -> Result<(), Strin
         let kind = match row.kind {
             Kind::Program => 0,
             Kind::File => 1,
-            Kind::Build { .. } | Kind::Edit { .. } | Kind::Read { .. } => continue,
+            Kind::Build { .. } | Kind::Edit { .. } | Kind::Read { .. } | Kind::Score { .. } => {
+                continue;
+            }
         };
         put_row(&mut out, kind, &due_text(&row), &row.file)?;
         refusals += 1;

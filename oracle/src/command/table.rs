@@ -2,6 +2,7 @@ use std::fs;
 
 use crate::{
     board::fits,
+    given::{Factors, checked_play},
     reader::{Refusal, read_library, read_program},
     recipe::{self, Kind, Row},
 };
@@ -46,14 +47,24 @@ pub fn check(table: &str) -> Result<(), String> {
 fn answer(row: &Row) -> Option<(u8, usize)> {
     let read = match row.kind {
         Kind::Program => read_program(&row.file),
-        Kind::File | Kind::Build { .. } => read_library(&row.file),
+        Kind::File | Kind::Build { .. } | Kind::Score { .. } => read_library(&row.file),
         Kind::Edit { .. } | Kind::Read { .. } => return None,
     };
-    Some(match (read, &row.kind) {
-        (Err(Refusal { number, offset }), _) => (number, offset),
-        (Ok(map), &Kind::Build { words, starts }) if !fits(map.objects.len(), words, starts) => {
-            (11, 0)
-        }
-        (Ok(_), _) => (0, 0),
-    })
+    let map = match read {
+        Ok(map) => map,
+        Err(Refusal { number, offset }) => return Some((number, offset)),
+    };
+    let number = match &row.kind {
+        &Kind::Build { words, starts } if !fits(map.objects.len(), words, starts) => 11,
+        Kind::Score { play, factors } => given_number(&row.file, play, factors),
+        _ => 0,
+    };
+    Some((number, 0))
+}
+
+/// The number of a play with factors beside an accepted file.
+fn given_number(file: &[u8], play: &[u8], factors: &[u64; 2]) -> u8 {
+    let [aim, speed] = factors.map(f64::from_bits);
+    let record = [b"PL", play].concat();
+    checked_play(file, &record, Some(Factors { aim, speed })).map_or_else(|number| number, |_| 0)
 }

@@ -1,6 +1,7 @@
 //! Lists of calls on a board.
 
 use super::{
+    breaks,
     damage::{bad_float, bad_setting, damage_record, damaged_file, exceed},
     objects::{self, Shape},
     plays,
@@ -40,10 +41,13 @@ pub fn list(seed: u64, index: u64) -> Vec<Call> {
     }
     let (shape, most) = r.weighted(&SHAPES);
     let map = shaped(&mut r, shape);
+    // Factors have a source of their own, so that the rest of a list is as it is without them.
+    let mut of_factors = Random::new(seed ^ 0xfac7, index);
     let mut made = Made::default();
     made.put(build(&mut r, map));
     for _ in 0..r.between(0, most) {
         let call = next(&mut r, &made, shape);
+        let call = with_factors(&mut of_factors, made.map(), call);
         made.put(call);
     }
     made.put(Call::Board);
@@ -135,6 +139,19 @@ fn next(r: &mut Random, made: &Made, shape: Shape) -> Call {
         92..=95 => other_read(r, made.map(), shape),
         _ => Call::Board,
     }
+}
+
+/// Gives factors to a third of the reads, and another play to half of these: most have breaks above 0.
+fn with_factors(r: &mut Random, map: &MapFile, mut call: Call) -> Call {
+    if let Call::Read { factors, play, .. } = &mut call
+        && r.below(3) == 0
+    {
+        *factors = Some(breaks::factors(r));
+        if r.percent(50) {
+            *play = breaks::broken(r, &Original::new(map));
+        }
+    }
+    call
 }
 
 fn edit(r: &mut Random, made: &Made, shape: Shape) -> Call {
@@ -238,6 +255,7 @@ fn read(r: &mut Random, map: &MapFile, shape: Shape) -> Call {
 fn read_of(map: &MapFile, is_own: bool, play: Play) -> Call {
     Call::Read {
         is_own,
+        factors: None,
         count: map.objects.len() as u32,
         settings: map.settings,
         breaks: calls::times(&map.breaks),
@@ -260,10 +278,16 @@ fn play(r: &mut Random, map: &MapFile, shape: Shape) -> Play {
     } else {
         plays::play(r, &original)
     };
+    spoil(r, &original, due, &mut play);
+    play
+}
+
+/// Puts a play out of range or beyond its map at times, or gives it a score with this chance.
+pub fn spoil(r: &mut Random, original: &Original, due: u64, play: &mut Play) {
     match r.below(100) {
         0..=3 => play.flags = r.pick(&[511, 512, 1 << 15, u16::MAX]),
         4..=7 => play.clock_rate = bad_float(r, 0.0, MAX_CLOCK_RATE),
-        8..=19 => exceed(r, &original, &mut play),
+        8..=19 => exceed(r, original, play),
         // A score that is due: 10 above the limit.
         20.. if r.percent(due) => {
             play.origin = r.pick(&[Origin::Stable, Origin::WithoutSliderAcc]);
@@ -271,7 +295,6 @@ fn play(r: &mut Random, map: &MapFile, shape: Shape) -> Play {
         }
         _ => {}
     }
-    play
 }
 
 /// A read with another count, settings or breaks.

@@ -3,6 +3,7 @@
 use super::{objects::Shape, random::Random};
 use crate::{
     map::{MapFile, Origin, Play},
+    osu::legacy_score_miss_calc::MissSteps,
     reader::{MAX_CLOCK_RATE, MAX_ESTIMATED_COMBO},
     values::{Attributes, Original},
 };
@@ -200,10 +201,15 @@ fn inside(r: &mut Random, a: &Attributes, play: &mut Play) -> u32 {
         let of_remaining = steps.score_of_remaining_combo;
         if steps.maximum_miss_count > 1.0 && of_remaining > 0.0 && play.judgements() > 0 {
             let misses = 1.0 + (steps.maximum_miss_count - 1.0) * r.unit();
-            return (steps.score_at_max_combo + of_remaining / misses).round() as u32;
+            return score_of(&steps, misses);
         }
         judgements(r, a.objects, play);
         play.max_combo = max_combo(r, a, play);
     }
     r.next_u64() as u32 % 100_000
+}
+
+/// The score whose estimate is nearest that many misses, where these lie between 1 and their cap.
+pub fn score_of(steps: &MissSteps, misses: f64) -> u32 {
+    (steps.score_at_max_combo + steps.score_of_remaining_combo / misses).round() as u32
 }

@@ -1,9 +1,15 @@
 //! The oracle's types as ours, and its values beside ours.
 
-use oracle::{map as theirs, reader::Refusal, values};
+use oracle::{
+    encode,
+    given::{Factors, checked_play},
+    map as theirs,
+    reader::Refusal,
+    values,
+};
 use popejoanplum::{
-    Attributes, Break, Error, Estimates, Map, MapFile, Mods, Nested, Object, Origin, Play, Score,
-    Settings,
+    Attributes, Break, BreaksScore, Error, Estimates, Map, MapFile, Mods, Nested, Object, Origin,
+    Play, Score, Settings, SliderFactors,
 };
 
 pub fn settings(s: &theirs::Settings) -> Settings {
@@ -51,6 +57,13 @@ pub fn play(p: &theirs::Play) -> Play {
         score: p.score,
         mods: Mods::from_bits(p.flags),
         clock_rate: p.clock_rate,
+    }
+}
+
+pub fn factors(f: Factors) -> SliderFactors {
+    SliderFactors {
+        aim: f.aim,
+        speed: f.speed,
     }
 }
 
@@ -175,12 +188,8 @@ pub fn due_answer(
     original: &values::Original,
     play: &theirs::Play,
 ) -> Result<ScoreBits, (u8, usize)> {
-    let mut file = oracle::encode::encode(map);
-    oracle::encode::play(&mut file, play);
-    match oracle::reader::read_library(&file) {
-        Ok(_) => Ok(due_score(original, play)),
-        Err(refusal) => Err((refusal.number, 0)),
-    }
+    check(map, play, None)?;
+    Ok(due_score(original, play))
 }
 
 pub fn answer(score: Result<Score, Error>) -> Result<ScoreBits, (u8, usize)> {
@@ -188,4 +197,51 @@ pub fn answer(score: Result<Score, Error>) -> Result<ScoreBits, (u8, usize)> {
         Ok(score) => Ok(score_bits(&score)),
         Err(error) => Err(refused(&error)),
     }
+}
+
+fn check(
+    map: &theirs::MapFile,
+    play: &theirs::Play,
+    factors: Option<Factors>,
+) -> Result<(), (u8, usize)> {
+    let mut record = Vec::new();
+    encode::play(&mut record, play);
+    let checked = checked_play(&encode::encode(map), &record, factors);
+    checked.map(|_| ()).map_err(|number| (number, 0))
+}
+
+/// A score, and the breaks for aim and for speed.
+pub type BreaksBits = (ScoreBits, [Option<u64>; 2]);
+
+/// What the same play gets with factors beside it.
+pub fn due_breaks_answer(
+    map: &theirs::MapFile,
+    original: &values::Original,
+    play: &theirs::Play,
+    factors: Factors,
+) -> Result<BreaksBits, (u8, usize)> {
+    check(map, play, Some(factors))?;
+    let attributes = original.attributes(play.passed.into());
+    let breaks = attributes.slider_breaks(play, &attributes.estimates(play), factors);
+    let breaks = [breaks.aim, breaks.speed].map(bits);
+    Ok((due_score(original, play), breaks))
+}
+
+pub fn breaks_answer(given: Result<BreaksScore, Error>) -> Result<BreaksBits, (u8, usize)> {
+    match given {
+        Ok(given) => {
+            let breaks = given.slider_breaks;
+            let breaks = [breaks.aim, breaks.speed].map(bits);
+            Ok((score_bits(&given.score), breaks))
+        }
+        Err(error) => Err(refused(&error)),
+    }
+}
+
+/// Whether an answer has breaks above 0.
+pub fn has_breaks(answer: &Result<BreaksBits, (u8, usize)>) -> bool {
+    let is_above = |bits: &Option<u64>| bits.is_some_and(|bits| f64::from_bits(bits) > 0.0);
+    answer
+        .as_ref()
+        .is_ok_and(|(_, breaks)| breaks.iter().all(is_above))
 }

@@ -6,12 +6,15 @@ use oracle::{
     board,
     calls::Call,
     encode::encode,
-    generate::calls::list,
-    map::MapFile,
+    generate::{breaks, calls::list, random::Random},
+    map::{MapFile, Play},
     reader::{read_library, read_object},
     values::Original,
 };
-use oracle_tests::{answer, due, due_answer, object, play, refused};
+use oracle_tests::{
+    answer, breaks_answer, due, due_answer, due_breaks_answer, factors, has_breaks, object, play,
+    refused,
+};
 use popejoanplum::Board;
 
 /// How often each number was met, with 0 for a good call.
@@ -20,6 +23,9 @@ struct Met {
     builds: [u32; 14],
     edits: [u32; 14],
     reads: [u32; 14],
+    factor_reads: [u32; 15],
+    /// Reads whose play has slider breaks.
+    broken: u32,
 }
 
 /// An accepted edit's map, or the number of the refusal. A board is always called with its map's
@@ -54,9 +60,27 @@ fn is_board_of(board: &Board, map: &MapFile) {
     );
 }
 
+/// A board, its map and the original's values of it.
+type Built = (Board, MapFile, Original);
+
+/// A read of a play, then with factors beside it.
+fn read((board, map, original): &Built, given: &Play, r: &mut Random, met: &mut Met) {
+    let number = |refused: Option<&(u8, usize)>| refused.map_or(0, |&(number, _)| number.into());
+    let due = due_answer(map, original, given);
+    assert_eq!(answer(board.read(&play(given))), due);
+    met.reads[number(due.as_ref().err())] += 1;
+
+    let beside = breaks::factors(r);
+    let due = due_breaks_answer(map, original, given, beside);
+    let ours = board.read_breaks(&play(given), &factors(beside));
+    assert_eq!(breaks_answer(ours), due);
+    met.factor_reads[number(due.as_ref().err())] += 1;
+    met.broken += u32::from(has_breaks(&due));
+}
+
 /// The oracle's list as far as a board of ours can be called so.
-fn replay(calls: &[Call], met: &mut Met) {
-    let mut built: Option<(Board, MapFile, Original)> = None;
+fn replay(calls: &[Call], r: &mut Random, met: &mut Met) {
+    let mut built: Option<Built> = None;
     for call in calls {
         match (call, &mut built) {
             (Call::Build { file, .. }, _) => {
@@ -103,12 +127,7 @@ fn replay(calls: &[Call], met: &mut Met) {
                     *map = changed;
                 }
             }
-            (Call::Read { play: given, .. }, Some((board, map, original))) => {
-                let due = due_answer(map, original, given);
-                let number = due.as_ref().map_or_else(|&(number, _)| number, |_| 0);
-                met.reads[usize::from(number)] += 1;
-                assert_eq!(answer(board.read(&play(given))), due);
-            }
+            (Call::Read { play, .. }, Some(built)) => read(built, play, r, met),
             (Call::Board, Some((board, map, _))) => is_board_of(board, map),
             (_, None) => {}
         }
@@ -119,14 +138,18 @@ fn replay(calls: &[Call], met: &mut Met) {
 fn edits_and_reads() {
     let mut met = Met::default();
     for index in 0..700 {
-        replay(&list(41, index), &mut met);
+        replay(&list(41, index), &mut Random::new(42, index), &mut met);
     }
     let Met {
         builds,
         edits,
         reads,
+        factor_reads,
+        broken,
     } = met;
-    println!("builds {builds:?}\nedits  {edits:?}\nreads  {reads:?}");
+    println!(
+        "builds {builds:?}\nedits  {edits:?}\nreads  {reads:?}, with factors {factor_reads:?}"
+    );
     assert!(builds[0] > 600 && builds[2..].iter().sum::<u32>() > 2);
     for number in [0, 2, 3, 4, 5, 6, 7, 12] {
         assert!(edits[number] > 20, "{number}: {edits:?}");
@@ -134,6 +157,10 @@ fn edits_and_reads() {
     for number in [0, 8, 9, 10] {
         assert!(reads[number] > 20, "{number}: {reads:?}");
     }
+    for number in [0, 8, 9, 10, 14] {
+        assert!(factor_reads[number] > 20, "{number}: {factor_reads:?}");
+    }
+    assert!(broken > 100, "{broken} with breaks");
 }
 
 #[test]
@@ -142,7 +169,8 @@ fn a_board_each_in_several_threads() {
         for seed in 50..54 {
             scope.spawn(move || {
                 for index in 0..60 {
-                    replay(&list(seed, index), &mut Met::default());
+                    let r = &mut Random::new(seed, index);
+                    replay(&list(seed, index), r, &mut Met::default());
                 }
             });
         }

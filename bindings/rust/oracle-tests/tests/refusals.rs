@@ -1,11 +1,14 @@
-//! The table of refusals, whose numbers and offsets are worked out by hand from document 01, held to
-//! the raw functions: these can be lent too little memory, or a board that no build made.
+//! The table of refusals, whose numbers and offsets are worked out by hand from documents 01 and 02,
+//! held to the raw functions: these can be lent too little memory, or a board that no build made.
 
-use oracle::recipe::{Kind, Lent, Memory, Row, parse_table};
+use oracle::recipe::{Kind, Lent, Memory, PLAY_BODY, Row, parse_table};
 use oracle_tests::refused;
 use popejoanplum::{
     Error, listing, score_map,
-    sys::{self, Attributes, Estimates, Play, PlayAnswer, Settings, Status},
+    sys::{
+        self, Attributes, BreaksAnswer, Estimates, Play, PlayAnswer, Settings, SliderBreaks,
+        SliderFactors, Status,
+    },
 };
 
 /// Numbers that no call writes, and how many of them are lent behind a row's memory.
@@ -67,6 +70,31 @@ impl Memories {
         }
     }
 
+    fn read_breaks(
+        &self,
+        count: usize,
+        settings: Settings,
+        breaks: &[f64],
+        play: Play,
+        factors: SliderFactors,
+    ) -> BreaksAnswer {
+        // SAFETY: as above.
+        unsafe {
+            sys::pjp_read_breaks(
+                self.words.as_ptr(),
+                self.words.len(),
+                self.starts.as_ptr(),
+                self.starts.len(),
+                count,
+                settings,
+                breaks.as_ptr(),
+                breaks.len(),
+                play,
+                factors,
+            )
+        }
+    }
+
     fn marked(words: usize, starts: usize) -> Self {
         Self {
             words: vec![WORD_MARK; words],
@@ -109,7 +137,7 @@ impl Memories {
 }
 
 /// The fields of a play record behind its mark, whatever they hold.
-fn play_of(body: &[u8; 42]) -> Play {
+fn play_of(body: &[u8; PLAY_BODY]) -> Play {
     fn at<const N: usize>(body: &[u8], offset: usize) -> [u8; N] {
         *body[offset..].first_chunk().unwrap()
     }
@@ -133,6 +161,11 @@ fn play_of(body: &[u8; 42]) -> Play {
     }
 }
 
+fn factors_of(bits: &[u64; 2]) -> SliderFactors {
+    let [aim, speed] = bits.map(f64::from_bits);
+    SliderFactors { aim, speed }
+}
+
 fn number_of<T>(answer: Result<T, Error>) -> (u8, usize) {
     answer.map_or_else(|error| refused(&error), |_| (0, 0))
 }
@@ -141,6 +174,10 @@ fn call(row: &Row) -> (u8, usize) {
     let lent = match &row.kind {
         Kind::Program => return number_of(listing(&row.file)),
         Kind::File => return number_of(score_map(&row.file)),
+        Kind::Score { play, factors } => {
+            let (play, factors) = (play_of(play), factors_of(factors));
+            return number_with_factors(score_breaks(&row.file, play, factors));
+        }
         Kind::Build { words, starts } => Memories::marked(*words as usize, *starts as usize),
         Kind::Edit { memory, .. } | Kind::Read { memory, .. } => Memories::lent(&row.file, memory),
     };
@@ -169,13 +206,13 @@ fn board_of(row: &Row) -> Option<usize> {
     match row.kind {
         Kind::Build { .. } => Some(popejoanplum::read_map(&row.file).unwrap().objects),
         Kind::Edit { count, .. } => Some(count as usize),
-        Kind::Read { .. } | Kind::Program | Kind::File => None,
+        Kind::Read { .. } | Kind::Program | Kind::File | Kind::Score { .. } => None,
     }
 }
 
 fn answer(row: &Row, lent: &mut Memories) -> (u8, usize) {
     let Status { status, offset } = match &row.kind {
-        Kind::Program | Kind::File => unreachable!("a call without a board"),
+        Kind::Program | Kind::File | Kind::Score { .. } => unreachable!("a call without a board"),
         Kind::Build { .. } => lent.build(&row.file),
         Kind::Edit {
             count,
@@ -188,30 +225,57 @@ fn answer(row: &Row, lent: &mut Memories) -> (u8, usize) {
             settings,
             breaks,
             play,
+            factors,
             ..
         } => {
             let [hp, od, cs] = settings.map(f32::from_bits);
             let breaks: Vec<f64> = breaks.iter().map(|&bits| f64::from_bits(bits)).collect();
-            let settings = Settings { hp, od, cs };
-            let answer = lent.read(*count as usize, settings, &breaks, play_of(play));
-            assert!(answer.status == 0 || is_zero(&answer), "{}", row.name);
-            return (answer.status, answer.offset);
+            let (count, settings, play) = (*count as usize, Settings { hp, od, cs }, play_of(play));
+            return match factors.as_ref().map(factors_of) {
+                None => number_without_factors(lent.read(count, settings, &breaks, play)),
+                Some(factors) => {
+                    number_with_factors(lent.read_breaks(count, settings, &breaks, play, factors))
+                }
+            };
         }
     };
     (status, offset)
 }
 
-/// Whether the values are those of a refusal.
-fn is_zero(answer: &PlayAnswer) -> bool {
-    answer.attributes == Attributes::default() && answer.estimates == Estimates::default()
+fn score_breaks(file: &[u8], play: Play, factors: SliderFactors) -> BreaksAnswer {
+    // SAFETY: as above.
+    unsafe { sys::pjp_score_play_breaks(file.as_ptr(), file.len(), play, factors) }
+}
+
+/// The number of an answer, and its offset. A refusal has no values.
+fn number_without_factors(answer: PlayAnswer) -> (u8, usize) {
+    let is_zero =
+        answer.attributes == Attributes::default() && answer.estimates == Estimates::default();
+    assert!(answer.status == 0 || is_zero, "{answer:?}");
+    (answer.status, answer.offset)
+}
+
+fn number_with_factors(answer: BreaksAnswer) -> (u8, usize) {
+    let SliderBreaks { aim, speed } = answer.slider_breaks;
+    let is_zero = aim.to_bits() == 0 && speed.to_bits() == 0;
+    assert!(answer.status == 0 || is_zero, "{answer:?}");
+    number_without_factors(PlayAnswer {
+        status: answer.status,
+        offset: answer.offset,
+        attributes: answer.attributes,
+        estimates: answer.estimates,
+    })
+}
+
+fn rows() -> Vec<Row> {
+    let table = concat!(env!("CARGO_MANIFEST_DIR"), "/../../../vectors/refusals.txt");
+    parse_table(&std::fs::read_to_string(table).unwrap()).unwrap()
 }
 
 #[test]
 fn every_row_of_the_table() {
-    let table = concat!(env!("CARGO_MANIFEST_DIR"), "/../../../vectors/refusals.txt");
-    let rows = parse_table(&std::fs::read_to_string(table).unwrap()).unwrap();
-    let mut met = [0_u32; 14];
-    for row in &rows {
+    let mut met = [0_u32; 15];
+    for row in &rows() {
         let due = (row.number, row.offset as usize);
         assert_eq!(call(row), due, "line {}, {}", row.line, row.name);
         met[usize::from(row.number)] += 1;
@@ -219,14 +283,68 @@ fn every_row_of_the_table() {
     assert!(met.iter().all(|&rows| rows > 0), "{met:?}");
 }
 
+/// The call of a row of a file or a read, made with factors out of range.
+fn with_bad_factors(row: &Row) -> Option<Row> {
+    let bad = [f64::NAN.to_bits(), 0];
+    let mut row = row.clone();
+    match &mut row.kind {
+        Kind::File => {
+            let mut play = [0; PLAY_BODY];
+            play[34..].copy_from_slice(&1.0_f64.to_le_bytes());
+            row.kind = Kind::Score { play, factors: bad };
+        }
+        Kind::Read { factors, .. } => *factors = Some(bad),
+        _ => return None,
+    }
+    Some(row)
+}
+
+/// "Checked last": each row keeps its number beside factors out of range, and a good one gets 14.
+#[test]
+fn factors_are_checked_last() {
+    for row in &rows() {
+        let Some(bad) = with_bad_factors(row) else {
+            continue;
+        };
+        let due = match row.number {
+            0 => (14, 0),
+            number => (number, row.offset as usize),
+        };
+        assert_eq!(call(&bad), due, "line {}, {}", row.line, row.name);
+    }
+}
+
+/// Two circles on a board whose combo no build made: 0 of 0 is not a number, as in the Rust's formula.
+#[test]
+fn breaks_without_combo() {
+    let rows = rows();
+    let row = rows.iter().find(|row| row.name == "read-factors-k-zero");
+    let Kind::Read { memory, play, .. } = &row.unwrap().kind else {
+        unreachable!("a read");
+    };
+    let lent = Memories::lent(&row.unwrap().file, memory);
+    let breaks = |play: Play| {
+        let factors = SliderFactors {
+            aim: 1.0,
+            speed: -0.0,
+        };
+        let answer = lent.read_breaks(2, Settings::default(), &[], play, factors);
+        assert_eq!(answer.status, 0);
+        [answer.slider_breaks.aim, answer.slider_breaks.speed]
+    };
+    let play = play_of(play);
+    assert!(breaks(play).iter().all(|breaks| breaks.is_nan()));
+    // Without the miss the effective count is 0, and the quotient is not asked for.
+    let no_miss = Play { misses: 0, ..play };
+    assert_eq!(breaks(no_miss).map(f64::to_bits), [0, 0]);
+}
+
 /// A play whose fields no type of Rust's holds is out of range, behind all that is wrong with the file.
 #[test]
 fn raw_plays_out_of_range() {
     let score = |file: &[u8], play: Play| {
         // SAFETY: as above.
-        let answer = unsafe { sys::pjp_score_play(file.as_ptr(), file.len(), play) };
-        assert!(answer.status == 0 || is_zero(&answer));
-        (answer.status, answer.offset)
+        number_without_factors(unsafe { sys::pjp_score_play(file.as_ptr(), file.len(), play) })
     };
     let good = Play::from(&popejoanplum::Play::default());
     let mut file = b"MH".to_vec();

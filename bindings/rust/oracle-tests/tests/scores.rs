@@ -1,17 +1,19 @@
 //! Scores from files and from data, beside the Rust that the library is ported from.
 
 use oracle::{
+    breaks::{Frame, Given},
     encode::encode,
-    generate::{self, calls, damage::damaged_file},
-    reader::read_library,
+    generate::{self, breaks, calls, damage::damaged_file, random::Random},
+    reader::{read_library, read_play},
     values::Original,
 };
 use oracle_tests::{
-    AttributesBits, answer, due, due_answer, due_score, map_file, refused, score_bits,
+    AttributesBits, answer, breaks_answer, due, due_answer, due_breaks_answer, due_score, factors,
+    has_breaks, map_file, refused, score_bits,
 };
 use popejoanplum::{
-    Board, Error, Map, MapFile, Object, ObjectKind, Score, listing, play_scores, read_map,
-    refusal_line, score_map, score_play, score_play_at,
+    Board, Error, Map, MapFile, Object, ObjectKind, Score, SliderFactors, listing, play_scores,
+    read_map, refusal_line, score_map, score_play, score_play_at, score_play_breaks,
 };
 
 /// Good files of a seed, with the oracle's map and its bytes.
@@ -62,31 +64,91 @@ fn an_index_without_a_play_is_no_refusal() {
     }
 }
 
-/// The plays are those of reads in the oracle's lists of calls: good ones, and refused by 8, 9 and 10.
-#[test]
-fn scores_of_plays_beside_a_map() {
-    let mut met = [0_u32; 11];
+/// The plays are those of reads in the oracle's lists of calls, each with the map as it then is: good
+/// ones, and refused by 8, 9 and 10.
+fn plays_beside_maps(mut visit: impl FnMut(&oracle::map::MapFile, &oracle::map::Play)) {
     for index in 0..250 {
         let mut list = oracle::calls::List::default();
         for call in calls::list(33, index) {
             if let oracle::calls::Call::Read { play, is_own, .. } = &call
                 && *is_own
             {
-                let map = list.map().expect("an accepted build");
-                let due = due_answer(map, &Original::new(map), play);
-                let play = oracle_tests::play(play);
-                let ours = oracle_tests::map(map);
-                assert_eq!(answer(ours.score_play(&play)), due);
-                assert_eq!(answer(score_play(&encode(map), &play)), due);
-                met[due.map_or_else(|(number, _)| number.into(), |_| 0)] += 1;
+                visit(list.map().expect("an accepted build"), play);
             } else if !matches!(call, oracle::calls::Call::Board) {
                 list.answer(&call).expect("a call that a list may have");
             }
         }
     }
+}
+
+fn number<T>(due: &Result<T, (u8, usize)>) -> usize {
+    due.as_ref()
+        .map_or_else(|&(number, _)| number.into(), |_| 0)
+}
+
+#[test]
+fn scores_of_plays_beside_a_map() {
+    let mut met = [0_u32; 11];
+    plays_beside_maps(|map, play| {
+        let due = due_answer(map, &Original::new(map), play);
+        let play = oracle_tests::play(play);
+        let ours = oracle_tests::map(map);
+        assert_eq!(answer(ours.score_play(&play)), due);
+        assert_eq!(answer(score_play(&encode(map), &play)), due);
+        met[number(&due)] += 1;
+    });
     for number in [0, 8, 9, 10] {
         assert!(met[number] > 10, "{met:?}");
     }
+}
+
+/// With factors a play gets what it gets without them, then 14, then the original's breaks.
+#[test]
+fn slider_breaks_of_plays_beside_a_map() {
+    let (mut met, mut broken) = ([0_u32; 15], 0);
+    let r = &mut Random::new(34, 0);
+    plays_beside_maps(|map, play| {
+        let given = breaks::factors(r);
+        let due = due_breaks_answer(map, &Original::new(map), play, given);
+        let (play, given) = (oracle_tests::play(play), factors(given));
+        let ours = oracle_tests::map(map).score_play_breaks(&play, &given);
+        assert_eq!(breaks_answer(ours), due);
+        let ours = score_play_breaks(&encode(map), &play, &given);
+        assert_eq!(breaks_answer(ours), due);
+        met[number(&due)] += 1;
+        broken += u32::from(has_breaks(&due));
+    });
+    for number in [0, 8, 9, 10, 14] {
+        assert!(met[number] > 10, "{met:?}");
+    }
+    assert!(broken > 50, "{broken} with breaks");
+}
+
+/// The oracle's plays with factors, most of which are made such that they have breaks.
+#[test]
+fn slider_breaks_of_plays_that_have_them() {
+    let mut broken = 0;
+    for index in 0..2_000 {
+        let Frame { given, file } = breaks::frame(35, index);
+        let Ok(map) = read_library(&file) else {
+            continue;
+        };
+        let original = Original::new(&map);
+        for Given {
+            factors: given,
+            record,
+        } in given
+        {
+            let Ok(play) = read_play(&record) else {
+                continue;
+            };
+            let due = due_breaks_answer(&map, &original, &play, given);
+            let ours = score_play_breaks(&file, &oracle_tests::play(&play), &factors(given));
+            assert_eq!(breaks_answer(ours), due);
+            broken += u32::from(has_breaks(&due));
+        }
+    }
+    assert!(broken > 1_000, "{broken} with breaks");
 }
 
 /// A damaged file is refused alike by every call that takes one.
@@ -102,9 +164,15 @@ fn refusals_of_damaged_files() {
         met[usize::from(refusal.number)] += 1;
         let due = due(&refusal);
         let given = popejoanplum::Play::default();
+        let wrong = SliderFactors {
+            aim: f64::NAN,
+            speed: -1.0,
+        };
         for error in [
             score_map(&bytes).unwrap_err(),
             score_play(&bytes, &given).unwrap_err(),
+            score_play_breaks(&bytes, &given, &SliderFactors::default()).unwrap_err(),
+            score_play_breaks(&bytes, &given, &wrong).unwrap_err(),
             score_play_at(&bytes, 0).unwrap_err(),
             score_play_at(&bytes, usize::MAX).unwrap_err(),
             Map::from_bytes(&bytes).unwrap_err(),

@@ -1,0 +1,2 @@
+pub mod Exp
+mod Examples

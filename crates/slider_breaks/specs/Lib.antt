@@ -1,0 +1,4 @@
+pub mod Difficulty
+pub mod SliderBreaks
+pub mod Given
+mod Examples

@@ -191,10 +191,8 @@ add-magnitude f {x} {y} {a} {b} {j} h k small fine =
 
 pub sub-magnitude : (f : Format) {x y : Float} {a b j : ℕ} → Magnitude x a j → Magnitude y b j → a + b < 2 ^ prec f → j ≤ low f
     → Magnitude (sub f x y) (a + b) j
-sub-magnitude f {x} {y} {a} {b} {j} h k small fine =
-    rw (sub-is f x y (h .is) (k .is))
-    (sum-magnitude f (negative x) (not (negative y)) (num x * den y) (num y * den x) (den x * den y) (a + b) j (mul-pos (den-pos x) (den-pos y))
-    (total (num x) (den x) a (num y) (den y) b (2 ^ j) (h .at-most) (k .at-most)) small fine)
+unfolding sub
+sub-magnitude f {y = y} h k small fine = add-magnitude f h (neg-magnitude y k) small fine
 
 pub div-magnitude : (f : Format) {x y : Float} {a b i : ℕ} (q j : ℕ) → Magnitude x a i → AtLeast y b → 0 < b → a * 2 ^ j ≤ q * (b * 2 ^ i) → q < 2 ^ prec f
     → j ≤ low f → Magnitude (div f x y) q j

@@ -4,14 +4,9 @@ use board::place::Written;
 use board::place::room_for;
 use entries::entry::Entry;
 use entries::words::store;
-use map_file::file::BREAK_RANK;
-use map_file::file::HEADER_RANK;
-use map_file::file::OBJECT_RANK;
-use map_file::file::rank_of;
+use map_reader::map::Map;
+use map_reader::map::objects_from;
 use numbers::words::word_at;
-use play_state::Play;
-use records::beatmap::BreakPeriod;
-use records::beatmap::Settings;
 use records::hit_object;
 use records::record::Read;
 use records::record::Record;
@@ -80,36 +75,15 @@ fn lay_object(
     0
 }
 
-// The size of a record that is no object, by its place in the order.
-fn size_of(rank: u8) -> usize
-    ensures { λ r. ⌜ r ≡ sizeOf rank ⌝ }
-{
-    if rank == HEADER_RANK {
-        return Settings::SIZE;
-    }
-    if rank == BREAK_RANK {
-        return BreakPeriod::SIZE;
-    }
-    Play::SIZE
-}
-
 // The own entries and the starts of an accepted file's objects.
-fn lay(file: &[u8], board: &mut [u64], starts: &mut [f64], cap: usize)
-    requires { ⌜ Lays cap (fileOf (now file)) (now board) (now starts) ⌝ }
-    ensures { λ _. ⌜ (now (board .exit), now (starts .exit)) ≡ objectsLaid cap (fileOf (now (file .entry))) (now (board .entry)) (now (starts .entry)) ⌝ }
+fn lay(file: &[u8], map: Map, board: &mut [u64], starts: &mut [f64], cap: usize)
 {
-    let mut at = 0;
+    let mut at = objects_from(map.breaks);
     let mut place = 0;
-    while at < file.len() {
+    while place < map.objects as usize {
         let r = &file[at..];
-        let mark = word_at(r, 0, 2);
-        let rank = rank_of(mark);
-        if rank == OBJECT_RANK {
-            at += lay_object(r, mark, board, starts, cap, place);
-            place += 1;
-        } else {
-            at += size_of(rank);
-        }
+        at += lay_object(r, word_at(r, 0, 2), board, starts, cap, place);
+        place += 1;
     }
 }
 
@@ -119,12 +93,12 @@ pub fn build(file: &[u8], board: &mut [u64], starts: &mut [f64]) -> Written
 {
     match check_plays(file, u64::MAX, 0) {
         Plays::Refused { number, offset } => Written::Refused { number, offset },
-        Plays::Good(a, _) => {
-            let count = a.object_count as usize;
+        Plays::Good(map, _, _) => {
+            let count = map.objects as usize;
             match room_for(board, starts, count) {
                 Room::Refused(number) => Written::Refused { number, offset: 0 },
                 Room::Is(size) => {
-                    lay(file, board, starts, size.cap);
+                    lay(file, map, board, starts, size.cap);
                     fill(board, size.cap, count);
                     Written::Done
                 }

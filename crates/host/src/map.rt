@@ -1,5 +1,5 @@
 // The settings of a map, and what a host is told of a map file before it scores it.
-use map_file::file::Answer;
+use play_reader::Answer;
 use map_file::file::Reader;
 use records::beatmap::Settings;
 ghost use mathlib.Core.Path.{_≡_};

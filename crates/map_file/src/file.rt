@@ -15,8 +15,7 @@ ghost use Prim.Native.Nat.{_+_, _≤_, _<_};
 ghost use lib.ListN.{length, drop};
 ghost use Rattle.records.specs.Records.{recordRead};
 ghost use Rattle.map_file.specs.Order.{rankOf, inOrder, isFull, overBonus, bodyOf, recordOf};
-ghost use Rattle.map_file.specs.File.{fileOf};
-ghost use Rattle.map_file.specs.View.{bonusIn, countedIn, Fits, settingsAfter, stepOf, freshOf, answerOf};
+ghost use Rattle.map_file.specs.View.{bonusIn, countedIn, Fits, settingsAfter, stepOf, freshOf};
 
 pub const MH: u64 = 0x484d;
 
@@ -52,11 +51,6 @@ pub struct Reader {
 
 pub enum Step {
     Next(Record, Reader),
-    Refused { number: u8, offset: usize },
-}
-
-pub enum Answer {
-    Map(Reader),
     Refused { number: u8, offset: usize },
 }
 
@@ -259,28 +253,4 @@ pub fn read_record(s: &[u8], reader: Reader) -> Step
             },
         ),
     }
-}
-
-// The map file: its sums, or the first refusal.
-pub fn read_map(s: &[u8]) -> Answer
-    ensures { λ r. ⌜ r ≡ answerOf (fileOf (now (s .entry))) ⌝ }
-{
-    let mut reader = Reader::new();
-    while reader.at < s.len() {
-        match read_record(s, reader) {
-            Step::Next(_, next) => {
-                reader = next;
-            }
-            Step::Refused { number, offset } => {
-                return Answer::Refused { number, offset };
-            }
-        }
-    }
-    if reader.counts.last == NO_RANK {
-        return Answer::Refused {
-            number: refusal::MARK,
-            offset: 0,
-        };
-    }
-    Answer::Map(reader)
 }

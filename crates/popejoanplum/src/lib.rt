@@ -23,7 +23,7 @@ use host::play::HostPlay;
 use host::play::play_in;
 use host::status::Status;
 use host::status::status_of;
-use map_file::file::read_map;
+use play_reader::read_map;
 use records::hit_object::HitObject;
 use scoring::score::score_map;
 use scoring::score::score_play;

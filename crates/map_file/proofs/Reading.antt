@@ -15,13 +15,11 @@ use Rattle.records.specs.Objects.{Object, bonus, kindBonus}
 use Rattle.records.specs.Records.{Content, header, break, object, play, FoundRecord, contentView}
 use Rattle.map_file.specs.Order.{recordOf}
 use Rattle.map_file.specs.File.{File, Result, accepted, refusedAt, countsOf, with-record, follow, ended, fileFrom, nothingRead, fileOf}
-use Rattle.map_file.specs.View.{countedIn, behind, stepOf, view, freshOf, answerOf}
+use Rattle.map_file.specs.View.{countedIn, behind, stepOf, view, freshOf}
 use Rattle.records.specs.declared.record.Record.{Record}
 use Rattle.map_file.specs.declared.file.Reader.{Reader}
 use Rattle.map_file.specs.declared.file.Step.{Step}
 use Rattle.map_file.specs.declared.file.Step.the-variants as step
-use Rattle.map_file.specs.declared.file.Answer.{Answer}
-use Rattle.map_file.specs.declared.file.Answer.the-variants as answer
 use Rattle.rules.proofs.All.{All, none, that, all-out}
 use Rattle.map_file.proofs.Bodies.{bonus-kept}
 use Rattle.map_file.proofs.Local.{record-in}
@@ -287,18 +285,7 @@ module _ (s : List ℕ) (f : File) (reader : Reader) (k : Kept s f reader) (h : 
           let a : at ≡ view f .at = cc in
           on-stop s f m (chain-on s f (k .chain)) before-end q ∙ rw (i, a ∙ seen f refl .at)
 
--- ---- the answers at the end of the input
+-- ---- at the end of the input
 module _ (s : List ℕ) (f : File) (reader : Reader) (k : Kept s f reader) (h : length s ≤ reader .at) where
   pub all-read : fileOf s ≡ ended f
   all-read = on-end s f (chain-on s f (k .chain)) (subst (λ (n : ℕ). length s ≤ n) (seen f (k .viewed) .at) h)
-
-  pub end-none : reader .counts .last ≡ 0 → answer.Refused 3 0 ≡ answerOf (fileOf s)
-  end-none e = rw all-read (simp (eq-eqb (f .last) 0 (sym (seen f (k .viewed) .last) ∙ e)))
-
-  pub end-map : (reader .counts .last ≡ 0 → ⊥) → answer.Map reader ≡ answerOf (fileOf s)
-  end-map e = rw all-read (simp (ne-eqb (f .last) 0 (λ z. e (seen f (k .viewed) .last ∙ z))) (ap answer.Map (k .viewed)))
-
--- some file was read so far
-pub record Reading (s : List ℕ) (reader : Reader) : Type 0 where
-  pub file : File
-  pub kept : Kept s file reader

@@ -15,7 +15,7 @@ ghost use Prim.Native.Nat.{_+_, _≤_, _<_};
 ghost use lib.ListN.{length, drop};
 ghost use Rattle.records.specs.Records.{recordRead};
 ghost use Rattle.map_file.specs.Order.{rankOf, inOrder, isFull, overBonus, bodyOf, recordOf};
-ghost use Rattle.map_file.specs.View.{bonusIn, countedIn, Fits, settingsAfter, stepOf, freshOf};
+ghost use Rattle.map_file.specs.View.{bonusIn, countedIn, Fits, settingsAfter, stepOf};
 
 pub const MH: u64 = 0x484d;
 
@@ -52,27 +52,6 @@ pub struct Reader {
 pub enum Step {
     Next(Record, Reader),
     Refused { number: u8, offset: usize },
-}
-
-impl Reader {
-    pub fn new() -> Self
-        ensures { λ r. ⌜ r ≡ freshOf ⌝ }
-    {
-        Reader {
-            at: 0,
-            settings: Settings {
-                hp: 0.0,
-                od: 0.0,
-                cs: 0.0,
-            },
-            counts: Counts {
-                last: NO_RANK,
-                breaks: 0,
-                objects: 0,
-                bonus: 0,
-            },
-        }
-    }
 }
 
 // The place of a mark.

@@ -51,14 +51,16 @@ steppedBy x (good f) = steppedWith x (f .0) (f .1)
 unfoldable pub nextOf : List ℕ → Objects → Stepped
 nextOf s x = pick (ltb (length s) (x .at + circleSize)) step.Stop (steppedBy x (objectOf (drop (x .at) s) (wordAt (drop (x .at) s) 0 2)))
 
+-- what follows a step
+abbrev pub ranBy : Objects → Stepped → (Objects → Ran) → Ran
+ranBy x (step.Next y) go = go y
+ranBy x step.Stop go = ran.To x
+ranBy x step.OverBonus go = ran.OverBonus (x .at)
+
 -- n objects further, or as many as there are
 unfoldable pub ranOf : ℕ → List ℕ → Objects → Ran
 ranOf zero s x = ran.To x
-ranOf (suc n) s x = elim (nextOf s x) [
-  | step.Next y ↦ ranOf n s y
-  | step.Stop ↦ ran.To x
-  | step.OverBonus ↦ ran.OverBonus (x .at)
-]
+ranOf (suc n) s x = ranBy x (nextOf s x) (λ y. ranOf n s y)
 
 -- ---- there is room for one object more
 abbrev pub Room : Objects → Type 0

@@ -9,7 +9,7 @@ use lib.ListN.{length, drop}
 use borrow.Author.Tests.{lt-ltb, le-ltb, ne-eqb}
 use Rattle.numbers.specs.Words.{wordAt}
 use Rattle.rules.specs.Limits.{maxBreaks}
-use Rattle.rules.specs.Refusals.{Checked, good, refused, _>>=_, _>>_, refuse_when_, pick, CUT, MARK, BONUS}
+use Rattle.rules.specs.Refusals.{good, refused, _>>=_, _>>_, refuse_when_, pick, CUT, MARK, BONUS}
 use Rattle.rules.proofs.All.{All, none, that, all-any, all-when}
 use Rattle.rules.proofs.Laws.{never}
 use Rattle.records.specs.Records.{Content, header, break, object, play, FoundRecord, CI, SL, SP, headerOf, contentView, recordRead}
@@ -48,11 +48,11 @@ good-is (good f) item size e = refl
 after-stop : (n : ℕ) (s : List ℕ) (count : ℕ) → isBreak (drop (objectsFrom count) s) ≡ false → breaksAfter n s count ≡ count
 unfolding breaksAfter
 after-stop zero s count e = refl
-after-stop (suc n) s count e = ap (λ (b : Bool). elim b [ | true ↦ breaksAfter n s (count + 1) | false ↦ count ]) e
+after-stop (suc n) s count e = ap (λ (b : Bool). elim b [ true ↦ breaksAfter n s (count + 1) | false ↦ count ]) e
 
 after-next : (n : ℕ) (s : List ℕ) (count : ℕ) → isBreak (drop (objectsFrom count) s) ≡ true → breaksAfter (suc n) s count ≡ breaksAfter n s (count + 1)
 unfolding breaksAfter
-after-next n s count e = ap (λ (b : Bool). elim b [ | true ↦ breaksAfter n s (count + 1) | false ↦ count ]) e
+after-next n s count e = ap (λ (b : Bool). elim b [ true ↦ breaksAfter n s (count + 1) | false ↦ count ]) e
 
 pub breaks-stop : (s : List ℕ) (count : ℕ) → isBreak (drop (objectsFrom count) s) ≡ false → breaksAfter (maxBreaks - count) s count ≡ count
 breaks-stop s count e = after-stop (maxBreaks - count) s count e

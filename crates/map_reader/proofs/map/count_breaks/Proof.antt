@@ -1,15 +1,13 @@
 -- What the definition counts from here on stays the same: each turn is one of its steps.
 use mathlib.Core.Path.{_≡_, refl, sym, ap, _∙_}
-use mathlib.Core.List.{List}
-use mathlib.Core.Bool.{true, false}
-use Prim.Native.Nat.{ℕ, _+_, _-_, _≤_, _<_}
+use Prim.Native.Nat.{ℕ, _-_, _≤_}
 use native.Mathlib.Omega.{arith}
 use denote.Ref.{now}
 use lib.ListN.{drop}
 use borrow.Author.Tests.{not-true, not-false}
 use Rattle.rules.specs.Limits.{maxBreaks}
 use Rattle.rules.proofs.Laws.{so}
-use Rattle.map_reader.specs.Map.{isBreak, objectsFrom, breaksAfter, breaksCount}
+use Rattle.map_reader.specs.Map.{isBreak, breaksAfter, breaksCount}
 use Rattle.map_reader.proofs.Heads.{breaks-end, breaks-stop, breaks-next}
 use borrow.Author.Needs.{needs}
 use Rattle.map_reader.proofs.map.count_breaks.Statement.{statement}

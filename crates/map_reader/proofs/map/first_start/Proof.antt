@@ -1,5 +1,5 @@
 -- The two arms are those of the definition.
-use mathlib.Core.Path.{_≡_, ap, _∙_}
+use mathlib.Core.Path.{ap, _∙_}
 use Prim.Native.Nat.{ℕ, _+_}
 use denote.Ref.{now}
 use lib.Ieee.{binary64, ofBits, ofInt}

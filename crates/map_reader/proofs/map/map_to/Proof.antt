@@ -1,10 +1,8 @@
 -- What stands behind the map decides both arms, in the definition too.
-use mathlib.Core.Path.{_≡_, refl, sym, ap, _∙_}
+use mathlib.Core.Path.{ap, _∙_}
 use denote.Ref.{now}
 use Rattle.rules.proofs.Laws.{so}
-use Rattle.map_file.specs.declared.file.Reader.{Reader}
 use Rattle.map_reader.specs.Map.{mapStopped, stopIn}
-use Rattle.map_reader.specs.declared.map.Stop.{Stop}
 use borrow.Author.Needs.{needs}
 use Rattle.map_reader.proofs.map.map_to.Statement.{statement}
 use Rattle.map_reader.proofs.map.map_to.Tie as tie

@@ -1,5 +1,5 @@
 -- Behind nothing a header alone is in order: so the checks of a record are its length, its mark and the header's own.
-use mathlib.Core.Path.{_≡_, sym, ap, _∙_}
+use mathlib.Core.Path.{sym, ap, _∙_}
 use denote.Ref.{now}
 use borrow.Author.Tests.{eq-eqb}
 use Rattle.rules.proofs.Laws.{so}

@@ -1,3 +1,4 @@
 pub mod Stepping
 pub mod Running
+pub mod Heads
 pub mod Records

@@ -37,7 +37,7 @@ rank-play m e =
     let f = rank-pick (eqb m SP) 4 3 _ (λ _ k. (omega (arith, k))) (d .1) in
     go (eqb m PL) refl (f .1)
   where
-    go : (b : Bool) → eqb m PL ≡ b → pick b 4 0 ≡ 4 → m ≡ PL
+    go : (b : Bool) → eqb m PL ≡ b → pick {A = ℕ} b 4 0 ≡ 4 → m ≡ PL
     go true e q = eqb-true m PL e
     go false e q = absurd (omega (arith, q))
 
@@ -46,7 +46,7 @@ rank-break m e =
     let a = rank-pick (eqb m MH) 2 1 _ (λ _ k. (omega (arith, k))) e in
     go (eqb m BR) refl (a .1)
   where
-    rest : pick (eqb m CI) 3 (pick (eqb m SL) 3 (pick (eqb m SP) 3 (pick (eqb m PL) 4 0))) ≡ 2 → ⊥
+    rest : pick {A = ℕ} (eqb m CI) 3 (pick (eqb m SL) 3 (pick (eqb m SP) 3 (pick (eqb m PL) 4 0))) ≡ 2 → ⊥
     rest q =
         let c = rank-pick (eqb m CI) 2 3 _ (λ _ k. (omega (arith, k))) q in
         let d = rank-pick (eqb m SL) 2 3 _ (λ _ k. (omega (arith, k))) (c .1) in
@@ -54,7 +54,7 @@ rank-break m e =
         let g = rank-pick (eqb m PL) 2 4 _ (λ _ k. (omega (arith, k))) (f .1) in
         omega (arith, g .1)
 
-    go : (b : Bool) → eqb m BR ≡ b → pick b 2 (pick (eqb m CI) 3 (pick (eqb m SL) 3 (pick (eqb m SP) 3 (pick (eqb m PL) 4 0)))) ≡ 2 → m ≡ BR
+    go : (b : Bool) → eqb m BR ≡ b → pick {A = ℕ} b 2 (pick (eqb m CI) 3 (pick (eqb m SL) 3 (pick (eqb m SP) 3 (pick (eqb m PL) 4 0)))) ≡ 2 → m ≡ BR
     go true e q = eqb-true m BR e
     go false e q = absurd (rest q)
 

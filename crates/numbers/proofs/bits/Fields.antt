@@ -59,7 +59,7 @@ powers a b c e = sym (pow-add 2 a b) ∙ ap (λ (k : ℕ). 2 ^ k) e
 pub size-is : (n k : ℕ) → 2 ^ k ≤ n → n < 2 ^ (k + 1) → size n ≡ k + 1
 size-is n k lo hi = omega (arith, lt-of-not-le (λ (g : size n ≤ k). not-le-of-lt (lt-of-lt-of-le (size-lt n) (pow-mono g)) lo), size-le n (k + 1) hi)
 
-dropped : (g x : ℕ) → g < 2 ^ 53 → (0 < x → 2 ^ 52 ≤ g) → size (g * 2 ^ x) - 53 ≡ x
+pub dropped : (g x : ℕ) → g < 2 ^ 53 → (0 < x → 2 ^ 52 ≤ g) → size (g * 2 ^ x) - 53 ≡ x
 dropped g zero h k = omega (arith, size-le (g * 1) 53 (omega arith))
 dropped g (suc x) h k =
     let low : 2 ^ (suc x + 52) ≤ g * 2 ^ suc x =

@@ -3,11 +3,12 @@ use crate::fields;
 use crate::fields::Double;
 use crate::record::Read;
 use crate::record::Record;
-use numbers::words::wide;
 use numbers::words::word_at;
 use rules::refusal;
 ghost use mathlib.Core.Path.{_≡_};
-ghost use Prim.Native.Nat.{_<_};
+ghost use Prim.Native.Nat.{_≤_};
+ghost use lib.ListN.{length};
+ghost use Rattle.rules.specs.Limits.{maxNested};
 ghost use Rattle.records.specs.Records.{recordRead, nestedView, nestedOf, circleOf, sliderOf, spinnerOf, objectOf};
 
 // The marks in ASCII, as little-endian numbers.
@@ -61,24 +62,29 @@ pub enum Nested {
     Wrong,
 }
 
-// One test and one counter for an item: before the tail an item is its own count of repeats.
+// No test in the loop and counters of 16 bits, so that the compiler takes many items at a time. An item above 1 leaves a bit in `high`;
+// without one, an item is its own count of repeats.
 fn count_nested(items: &[u8]) -> Nested
+    requires { ⌜ length (now items) ≤ maxNested ⌝ }
     ensures { λ r. ⌜ r ≡ nestedView (nestedOf (now (items .entry))) ⌝ }
 {
     if items.len() == 0 {
         return Nested::Wrong;
     }
     let last = items.len() - 1;
-    let mut repeats: u64 = 0;
+    let mut ones: u16 = 0;
+    let mut high: u16 = 0;
     let mut i = 0;
     while i < last {
-        let b = items[i];
-        if 1 < b {
-            return Nested::Wrong;
-        }
-        repeats += wide(b);
+        let b = items[i] as u16;
+        ones += b & 1;
+        high = high | b;
         i += 1;
     }
+    if 1 < high {
+        return Nested::Wrong;
+    }
+    let repeats = ones as u64;
     if items[last] == 2 {
         return Nested::Counts(Slider {
             repeats,

@@ -14,9 +14,28 @@ pub fn significant(value: f64) -> String {
     }
 }
 
+/// The same with as many more digits as set it apart from a bar that it does not equal, so that a reader sees on which
+/// side of it it lies.
+pub fn beside(value: f64, bar: f64) -> String {
+    let short = significant(value);
+    let side = value.partial_cmp(&bar);
+    let is_apart = |text: &str| {
+        let shown: Option<f64> = text.replace(',', "").parse().ok();
+        shown.and_then(|shown| shown.partial_cmp(&bar)) == side
+    };
+    let longer = (1..=9).map(|decimals| grouped(&format!("{value:.decimals$}")));
+    let mut texts = [short.clone()].into_iter().chain(longer);
+    texts.find(|text| is_apart(text)).unwrap_or(short)
+}
+
 /// A whole number in groups of three digits.
 pub fn whole(value: u64) -> String {
-    let digits = value.to_string();
+    grouped(&value.to_string())
+}
+
+/// Digits before a point, if there is one, in groups of three.
+fn grouped(number: &str) -> String {
+    let (digits, rest) = number.split_at(number.find('.').unwrap_or(number.len()));
     let mut text = String::new();
     for (place, digit) in digits.chars().enumerate() {
         if place > 0 && (digits.len() - place).is_multiple_of(3) {
@@ -24,7 +43,7 @@ pub fn whole(value: u64) -> String {
         }
         text.push(digit);
     }
-    text
+    text + rest
 }
 
 /// A time that is given in nanoseconds.
@@ -57,6 +76,24 @@ mod tests {
         ];
         for (value, text) in cases {
             assert_eq!(significant(value), text);
+        }
+    }
+
+    #[test]
+    fn a_figure_shows_its_side_of_a_bar() {
+        let cases = [
+            (499.94, 500.0, "499.9"),
+            (500.0, 500.0, "500"),
+            (500.2, 500.0, "500.2"),
+            (1_000.04, 1_000.0, "1,000.04"),
+            (1_003.0, 1_000.0, "1,003"),
+            (1.0032, 1.0, "1.003"),
+            (0.34004, 0.34, "0.34004"),
+            (0.3405, 0.34, "0.341"),
+            (0.278, 0.34, "0.278"),
+        ];
+        for (value, bar, text) in cases {
+            assert_eq!(beside(value, bar), text);
         }
     }
 

@@ -5,7 +5,7 @@ use crate::{
     cases::LONG_SLIDERS,
     figure::Figure,
     instructions::Counts,
-    number::{beside, whole},
+    number::{judged, whole},
     own_plays::OwnTimes,
     reading::ReadingTimes,
     results::{Results, Round, Row},
@@ -115,7 +115,7 @@ impl Aim {
 
 /// The median with the range.
 fn measured(figure: &Figure, asked: Asked) -> String {
-    let shown = |value| beside(value, asked.bar());
+    let shown = |value| judged(value, |shown| asked.is_met(shown));
     let median = format!("{} {}", shown(figure.median()), asked.unit().text());
     match figure.range() {
         Some((least, most)) => format!("{median} ({} to {})", shown(least), shown(most)),

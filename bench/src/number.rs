@@ -14,18 +14,17 @@ pub fn significant(value: f64) -> String {
     }
 }
 
-/// The same with as many more digits as set it apart from a bar that it does not equal, so that a reader sees on which
-/// side of it it lies.
-pub fn beside(value: f64, bar: f64) -> String {
+/// The same with as many more digits as it takes to be judged as the value itself is: 499.9 does not meet a bar of 500,
+/// and does not read as 500.
+pub fn judged(value: f64, is_met: impl Fn(f64) -> bool) -> String {
     let short = significant(value);
-    let side = value.partial_cmp(&bar);
-    let is_apart = |text: &str| {
-        let shown: Option<f64> = text.replace(',', "").parse().ok();
-        shown.and_then(|shown| shown.partial_cmp(&bar)) == side
+    let is_as_judged = |text: &str| {
+        let shown = text.replace(',', "").parse();
+        shown.is_ok_and(|shown| is_met(shown) == is_met(value))
     };
     let longer = (1..=9).map(|decimals| grouped(&format!("{value:.decimals$}")));
     let mut texts = [short.clone()].into_iter().chain(longer);
-    texts.find(|text| is_apart(text)).unwrap_or(short)
+    texts.find(|text| is_as_judged(text)).unwrap_or(short)
 }
 
 /// A whole number in groups of three digits.
@@ -80,20 +79,24 @@ mod tests {
     }
 
     #[test]
-    fn a_figure_shows_its_side_of_a_bar() {
-        let cases = [
+    fn a_figure_reads_as_it_is_judged() {
+        let least = [
             (499.94, 500.0, "499.9"),
             (500.0, 500.0, "500"),
-            (500.2, 500.0, "500.2"),
-            (1_000.04, 1_000.0, "1,000.04"),
-            (1_003.0, 1_000.0, "1,003"),
+            (500.2, 500.0, "500"),
+            (1_999.97, 2_000.0, "1,999.97"),
+        ];
+        for (value, bar, text) in least {
+            assert_eq!(judged(value, |shown| shown >= bar), text);
+        }
+        let most = [
             (1.0032, 1.0, "1.003"),
+            (0.99999, 1.0, "1.00"),
             (0.34004, 0.34, "0.34004"),
-            (0.3405, 0.34, "0.341"),
             (0.278, 0.34, "0.278"),
         ];
-        for (value, bar, text) in cases {
-            assert_eq!(beside(value, bar), text);
+        for (value, bar, text) in most {
+            assert_eq!(judged(value, |shown| shown <= bar), text);
         }
     }
 

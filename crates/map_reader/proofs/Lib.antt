@@ -2,3 +2,4 @@ pub mod Stepping
 pub mod Running
 pub mod Heads
 pub mod Records
+pub mod Files

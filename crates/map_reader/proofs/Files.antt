@@ -77,7 +77,7 @@ after-legacy st (o ∷ os) =
 pub state-count : {os : List Object} {x : Objects} → StateOf os x → countOf x ≡ length os
 state-count {os = os} k = ap (λ (c : NestedScorePerObject). c .«object_count») (k .nested) ∙ count-is noObject os ∙ omega arith
 
-state-bonus : {os : List Object} {x : Objects} → StateOf os x → bonusOf x ≡ bonus os
+pub state-bonus : {os : List Object} {x : Objects} → StateOf os x → bonusOf x ≡ bonus os
 state-bonus {os = os} k = ap (λ (st : State). st .«legacy_bonus_score» .0) (k .score) ∙ after-legacy fresh os ∙ omega arith
 
 pub state-none : (at : ℕ) → StateOf [] (objectsAt at)
@@ -188,7 +188,7 @@ unfoldable pub objectsRan : ℕ → List ℕ → Objects → List Object
 objectsRan zero s x = []
 objectsRan (suc n) s x = takenBy (nextOf s x) (objectsIn (objectAt s x)) (λ y. objectsRan n s y)
 
-taken-next : (n : ℕ) (s : List ℕ) (x y : Objects) → step.Next y ≡ nextOf s x → (t : Took s x y) → objectsRan (suc n) s x ≡ t .o ∷ objectsRan n s y
+pub taken-next : (n : ℕ) (s : List ℕ) (x y : Objects) → step.Next y ≡ nextOf s x → (t : Took s x y) → objectsRan (suc n) s x ≡ t .o ∷ objectsRan n s y
 unfolding objectsRan
 taken-next n s x y e t =
     ap (λ (a : Stepped). takenBy a (objectsIn (objectAt s x)) (λ z. objectsRan n s z)) (sym e)
@@ -198,6 +198,11 @@ pub taken-stop : (n : ℕ) (s : List ℕ) (x : Objects) → step.Stop ≡ nextOf
 unfolding objectsRan
 taken-stop zero s x e = refl
 taken-stop (suc n) s x e = ap (λ (a : Stepped). takenBy a (objectsIn (objectAt s x)) (λ z. objectsRan n s z)) (sym e)
+
+pub taken-over : (n : ℕ) (s : List ℕ) (x : Objects) → step.OverBonus ≡ nextOf s x → objectsRan n s x ≡ []
+unfolding objectsRan
+taken-over zero s x e = refl
+taken-over (suc n) s x e = ap (λ (a : Stepped). takenBy a (objectsIn (objectAt s x)) (λ z. objectsRan n s z)) (sym e)
 
 -- ---- the file behind a run
 -- as many objects as were asked for, or all that there are

@@ -76,8 +76,7 @@ fn lay_object(
 }
 
 // The own entries and the starts of an accepted file's objects.
-fn lay(file: &[u8], map: Map, board: &mut [u64], starts: &mut [f64], cap: usize)
-{
+fn lay(file: &[u8], map: Map, board: &mut [u64], starts: &mut [f64], cap: usize) {
     let mut at = objects_from(map.breaks);
     let mut place = 0;
     while place < map.objects as usize {

@@ -33,8 +33,7 @@ pub enum Listed {
 }
 
 // The lines of a map's plays, all of which are good, from a place of the space on.
-fn put_plays(s: &[u8], map: Map, space: &mut [u8], from: usize) -> usize
-{
+fn put_plays(s: &[u8], map: Map, space: &mut [u8], from: usize) -> usize {
     let marks = marks_of(s, map);
     let mut to = from;
     let mut at = map.end;

@@ -24,7 +24,7 @@ use Rattle.map_file.specs.Order.{BR, PL, recordOf}
 use Rattle.map_file.specs.File.{File, countsOf, with-record, nothingRead, refusedAt, fileOf}
 use Rattle.map_file.specs.View.{Fits, view, freshOf}
 use Rattle.map_file.specs.declared.file.Reader.{Reader}
-use Rattle.map_file.proofs.Reading.{Chain, start, longer, chain-on, chain-plays, on-start, on-stop, on-end, foundAt, with-last, found-ordered, found-sized, length-snoc}
+use Rattle.map_file.proofs.Reading.{Chain, chain-inside, start, longer, chain-on, chain-plays, on-start, on-stop, on-end, foundAt, with-last, found-ordered, found-sized, length-snoc}
 use Rattle.map_file.proofs.Room.{placeOf, record-fits, Begun, record-begun}
 use Rattle.ruleset.specs.Drain.{startOf}
 use Rattle.ruleset.proofs.FileBreaks.{record-placed}
@@ -219,3 +219,7 @@ head-refuses s n e = by-length (eqb (length s) 0) refl e
 
 pub head-reads : (s : List ℕ) (t : Settings) → head.Is t ≡ headIn s → BreaksEnd s t (breaksCount s)
 head-reads s t e = let read = head-read s t e in breaks-ran maxBreaks s t 0 (read .file) (omega arith) (read .at)
+
+-- the objects begin within the file
+pub breaks-inside : {s : List ℕ} {t : Settings} {count : ℕ} → BreaksEnd s t count → objectsFrom count ≤ length s
+breaks-inside {s = s} k = let e = breaks-place (k .at) in let h = chain-inside s (k .file) (k .at .chain) in omega (arith, e, h)

@@ -248,3 +248,10 @@ read-is s t p e = objects-read (head-reads s t e) p
 
 pub read-refused : (s : List ℕ) (n p : ℕ) → head.Refused n ≡ headIn s → MapReadOf s p (read.Refused n 0)
 read-refused s n p e = refuses (head-refuses s n e) refl
+
+-- ---- from what the calls said
+pub ran-from : (s : List ℕ) (breaks p limit at : ℕ) (x : Objects) → limit ≡ min p maxObjects → at ≡ objectsFrom breaks → x ≡ objectsAt at
+    → ranOf (limit - countOf x) s x ≡ ranOf (min p maxObjects) s (objectsAt (objectsFrom breaks))
+ran-from s breaks p limit at x e q k =
+    let n : limit - 0 ≡ min p maxObjects = omega (arith, e) in
+    ap (λ (z : Objects). ranOf (limit - countOf z) s z) (k ∙ ap objectsAt q) ∙ ap (λ (i : ℕ). ranOf i s (objectsAt (objectsFrom breaks))) n

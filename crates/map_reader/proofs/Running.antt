@@ -202,6 +202,18 @@ pub ran-none : (n : ℕ) (s : List ℕ) (x : Objects) → n ≡ 0 → ran.To x �
 unfolding ranOf
 ran-none n s x e = rw e
 
+pub small-ran : (n : ℕ) (s : List ℕ) (x y : Objects) → Small s x → countOf x + n ≤ maxObjects → ran.To y ≡ ranOf n s x → Small s y
+unfolding ranOf
+small-ran zero s x y k h e = let same : x ≡ y = cc in subst (Small s) same k
+small-ran (suc n) s x y k h e = go (λ z m l q. small-ran n s z y m l q) (nextOf s x) refl (answered s x)
+  where
+    go : ((z : Objects) → Small s z → countOf z + n ≤ maxObjects → ran.To y ≡ ranOf n s z → Small s y) → (a : Stepped) → nextOf s x ≡ a → Answered s x a → Small s y
+    go more (step.Next z) q (took t) =
+        let count = took-count t in
+        more z (took-small t k (omega (arith, h))) (omega (arith, h, count)) (e ∙ ran-next n s x z (sym q))
+    go more step.Stop q (stop m) = let same : ran.To x ≡ ran.To y = ran-stop (suc n) s x (sym q) ∙ sym e in (let z : x ≡ y = cc in subst (Small s) z k)
+    go more step.OverBonus q (over m) = let z : ran.To y ≡ ran.OverBonus (x .at) = e ∙ sym (ran-over (suc n) s x (omega arith) (sym q)) in never (cc)
+
 -- ---- the loop's invariant
 pub record Running (s : List ℕ) (limit : ℕ) (from x : Objects) : Type 0 where
   pub same : ranOf (limit - countOf from) s from ≡ ranOf (limit - countOf x) s x

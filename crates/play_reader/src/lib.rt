@@ -92,8 +92,7 @@ pub fn read_file(s: &[u8], passed: u64) -> MapFile
 }
 
 // The place in the order of a file's last record.
-fn last_rank(s: &[u8], map: Map) -> u8
-{
+fn last_rank(s: &[u8], map: Map) -> u8 {
     if map.end < s.len() {
         return PLAY_RANK;
     }

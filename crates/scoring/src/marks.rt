@@ -17,22 +17,19 @@ pub struct Marks {
 }
 
 // The objects from one mark to the next.
-fn stride_of(objects: u64) -> u64
-{
+fn stride_of(objects: u64) -> u64 {
     objects / 128 + 1
 }
 
 // The state behind a map's first `count` objects, from one before it.
-fn state_at(s: &[u8], from: Objects, count: u64) -> Objects
-{
+fn state_at(s: &[u8], from: Objects, count: u64) -> Objects {
     match run(s, from, count) {
         Ran::To(state) => state,
         Ran::OverBonus(_) => from,
     }
 }
 
-pub fn marks_of(s: &[u8], map: Map) -> Marks
-{
+pub fn marks_of(s: &[u8], map: Map) -> Marks {
     let stride = stride_of(map.objects);
     let mut state = Objects::new(objects_from(map.breaks));
     let mut states = [state; 128];
@@ -48,14 +45,12 @@ pub fn marks_of(s: &[u8], map: Map) -> Marks
 }
 
 // The last mark that is not behind the objects that a play passed.
-pub fn mark_before(objects: u64, play: Play) -> usize
-{
+pub fn mark_before(objects: u64, play: Play) -> usize {
     (least(play.passed_objects as u64, objects) / stride_of(objects)) as usize
 }
 
 // A play on a map, from the mark before it.
-pub fn score_from(s: &[u8], map: Map, mark: Objects, play: Play) -> Scored
-{
+pub fn score_from(s: &[u8], map: Map, mark: Objects, play: Play) -> Scored {
     let passed = state_at(s, mark, least(play.passed_objects as u64, map.objects));
     score_on(play, attributes_of(s, Map { passed, ..map }))
 }

@@ -35,8 +35,7 @@ pub enum Checked {
 
 impl Wanted {
     // Behind one more play.
-    fn after(self, score: PlayScore) -> Self
-    {
+    fn after(self, score: PlayScore) -> Self {
         match self {
             Wanted::Is(found) => Wanted::Is(found),
             Wanted::Ahead(ahead) => {
@@ -50,14 +49,12 @@ impl Wanted {
 }
 
 // A play passed as many of the objects as another number of passed objects does.
-fn passes_as_many(play: Play, passed: u64, objects: u64) -> bool
-{
+fn passes_as_many(play: Play, passed: u64, objects: u64) -> bool {
     least(play.passed_objects as u64, objects) == least(passed, objects)
 }
 
 // The plays from an offset on, whatever they passed. The marks are made only here: most files have no such play.
-fn check_any(s: &[u8], map: Map, from: usize, former: Wanted) -> Checked
-{
+fn check_any(s: &[u8], map: Map, from: usize, former: Wanted) -> Checked {
     let marks = marks_of(s, map);
     let mut at = from;
     let mut wanted = former;
@@ -84,8 +81,7 @@ fn check_any(s: &[u8], map: Map, from: usize, former: Wanted) -> Checked
 }
 
 // The plays behind a map, from the attributes of its passed objects as long as they passed as many.
-fn check_behind(s: &[u8], map: Map, a: ScoreAttributes, passed: u64, index: u64) -> Checked
-{
+fn check_behind(s: &[u8], map: Map, a: ScoreAttributes, passed: u64, index: u64) -> Checked {
     let mut at = map.end;
     let mut wanted = Wanted::Ahead(index);
     while at < s.len() {
@@ -113,8 +109,7 @@ fn check_behind(s: &[u8], map: Map, a: ScoreAttributes, passed: u64, index: u64)
 }
 
 // Reads a file to its end, each play checked in its place.
-pub fn check_plays(s: &[u8], passed: u64, index: u64) -> Plays
-{
+pub fn check_plays(s: &[u8], passed: u64, index: u64) -> Plays {
     match read_passed(s, passed) {
         MapRead::Refused { number, offset } => Plays::Refused { number, offset },
         MapRead::Map(map) => {

@@ -29,7 +29,7 @@ enum-known-item-2 : tie.Need-enum-known-item-2
 enum-known-item-2 c = search needs
 
 returns-2 : tie.Need-returns-2
-returns-2 c = 
+returns-2 c =
     let start = c .before .before .before .before .before .before in
     let k = circle-read (now (start .args .r)) _ _ (so (c .before .before .item .given .1) (c .before .before .before .before .read-circle .ensures)) in
     absurd (miss (0 ∷ 1 ∷ 3 ∷ []) 2 tt (rw (k .item-is) at (c .match2 .keys2)))
@@ -38,7 +38,7 @@ enum-told-2 : tie.Need-enum-told-2
 enum-told-2 c = search needs
 
 returns-3 : tie.Need-returns-3
-returns-3 c = 
+returns-3 c =
     let start = c .before .before .before .before .before .before .before .before .before in
     let k = circle-read (now (start .args .r)) _ _ (so (c .before .before .before .before .before .item .given .1) (c .before .before .before .before .before .before .before .read-circle .ensures)) in
     let is = kind-is k _ (c .before .before .item2 .given .1) ∙ circle-of _ (k .kind) in
@@ -46,7 +46,7 @@ returns-3 c =
 
 add-t10 : tie.Need-add-t10
 unfolding objectOf
-add-t10 c = 
+add-t10 c =
     let start = c .before .before .before .before .before .before .before .before .before .before .before .before .before in
     let e = so (c .before .before .before .before .before .before .before .before .before .item .given .1) (c .before .before .before .before .before .before .before .before .before .before .before .read-circle .ensures) in
     let k = circle-read (now (start .args .r)) _ _ e in
@@ -59,7 +59,7 @@ circle-requires c κs = search needs
 
 process-next-requires : tie.Need-process-next-requires
 unfolding objectOf
-process-next-requires c κs = 
+process-next-requires c κs =
     let start = c .before .before .before .before .before .before .before .before .before .before .before .before .before .before in
     let e = so (c .before .before .before .before .before .before .before .before .before .before .item .given .1) (c .before .before .before .before .before .before .before .before .before .before .before .before .read-circle .ensures) in
     let k = circle-read (now (start .args .r)) _ _ e in
@@ -67,7 +67,7 @@ process-next-requires c κs =
     (start .pre .0 .1, read-few (now (start .args .r)) CI _ _ e k _ i)
 
 returns-4 : tie.Need-returns-4
-returns-4 c = 
+returns-4 c =
     let start = c .before .before .before .before .before .before .before .before .before .before .before .before .before .before .before in
     let e = so (c .before .before .before .before .before .before .before .before .before .before .before .item .given .1) (c .before .before .before .before .before .before .before .before .before .before .before .before .before .read-circle .ensures) in
     let k = circle-read (now (start .args .r)) _ _ e in

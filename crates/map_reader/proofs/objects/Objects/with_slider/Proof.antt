@@ -29,7 +29,7 @@ enum-known-item-2 : tie.Need-enum-known-item-2
 enum-known-item-2 c = search needs
 
 returns-2 : tie.Need-returns-2
-returns-2 c = 
+returns-2 c =
     let start = c .before .before .before .before .before .before in
     let k = slider-read (now (start .args .r)) _ _ (so (c .before .before .item .given .1) (c .before .before .before .before .read-slider .ensures)) in
     absurd (miss (0 ∷ 1 ∷ 3 ∷ []) 2 tt (rw (k .item-is) at (c .match2 .keys2)))
@@ -38,7 +38,7 @@ enum-known-kind : tie.Need-enum-known-kind
 enum-known-kind c = search needs
 
 returns-3 : tie.Need-returns-3
-returns-3 c = 
+returns-3 c =
     let start = c .before .before .before .before .before .before .before .before .before in
     let k = slider-read (now (start .args .r)) _ _ (so (c .before .before .before .before .before .item .given .1) (c .before .before .before .before .before .before .before .read-slider .ensures)) in
     let is = kind-is k _ (c .before .before .item2 .given .1) ∙ slider-of _ (k .kind) in
@@ -46,7 +46,7 @@ returns-3 c =
 
 add-t11 : tie.Need-add-t11
 unfolding objectOf
-add-t11 c = 
+add-t11 c =
     let start = c .before .before .before .before .before .before .before .before .before .before .before .before .before .before in
     let e = so (c .before .before .before .before .before .before .before .before .before .before .item .given .1) (c .before .before .before .before .before .before .before .before .before .before .before .before .read-slider .ensures) in
     let k = slider-read (now (start .args .r)) _ _ e in
@@ -56,7 +56,7 @@ add-t11 c =
 
 slider-requires : tie.Need-slider-requires
 unfolding objectOf
-slider-requires c κs = 
+slider-requires c κs =
     let start = c .before .before .before .before .before .before .before .before .before .before .before .before .before .before in
     let e = so (c .before .before .before .before .before .before .before .before .before .before .item .given .1) (c .before .before .before .before .before .before .before .before .before .before .before .before .read-slider .ensures) in
     let k = slider-read (now (start .args .r)) _ _ e in
@@ -66,7 +66,7 @@ slider-requires c κs =
 
 process-next-requires : tie.Need-process-next-requires
 unfolding objectOf
-process-next-requires c κs = 
+process-next-requires c κs =
     let start = c .before .before .before .before .before .before .before .before .before .before .before .before .before .before .before in
     let e = so (c .before .before .before .before .before .before .before .before .before .before .before .item .given .1) (c .before .before .before .before .before .before .before .before .before .before .before .before .before .read-slider .ensures) in
     let k = slider-read (now (start .args .r)) _ _ e in
@@ -74,7 +74,7 @@ process-next-requires c κs =
     (start .pre .0 .1, read-few (now (start .args .r)) SL _ _ e k _ i)
 
 returns-4 : tie.Need-returns-4
-returns-4 c = 
+returns-4 c =
     let start = c .before .before .before .before .before .before .before .before .before .before .before .before .before .before .before .before in
     let e = so (c .before .before .before .before .before .before .before .before .before .before .before .before .item .given .1) (c .before .before .before .before .before .before .before .before .before .before .before .before .before .before .read-slider .ensures) in
     let k = slider-read (now (start .args .r)) _ _ e in

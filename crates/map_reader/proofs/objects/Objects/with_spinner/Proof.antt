@@ -29,7 +29,7 @@ enum-known-item-2 : tie.Need-enum-known-item-2
 enum-known-item-2 c = search needs
 
 returns-2 : tie.Need-returns-2
-returns-2 c = 
+returns-2 c =
     let start = c .before .before .before .before .before .before in
     let k = spinner-read (now (start .args .r)) _ _ (so (c .before .before .item .given .1) (c .before .before .before .before .read-spinner .ensures)) in
     absurd (miss (0 ∷ 1 ∷ 3 ∷ []) 2 tt (rw (k .item-is) at (c .match2 .keys2)))
@@ -38,7 +38,7 @@ enum-known-kind : tie.Need-enum-known-kind
 enum-known-kind c = search needs
 
 returns-3 : tie.Need-returns-3
-returns-3 c = 
+returns-3 c =
     let start = c .before .before .before .before .before .before .before .before .before in
     let k = spinner-read (now (start .args .r)) _ _ (so (c .before .before .before .before .before .item .given .1) (c .before .before .before .before .before .before .before .read-spinner .ensures)) in
     let is = kind-is k _ (c .before .before .item2 .given .1) ∙ spinner-of _ (k .kind) in
@@ -48,7 +48,7 @@ spinner-requires : tie.Need-spinner-requires
 spinner-requires c κs = search needs
 
 returns-4 : tie.Need-returns-4
-returns-4 c = 
+returns-4 c =
     let start = c .before .before .before .before .before .before .before .before .before .before .before .before .before .before .before .before in
     let e = so (c .before .before .before .before .before .before .before .before .before .before .before .before .item .given .1) (c .before .before .before .before .before .before .before .before .before .before .before .before .before .before .read-spinner .ensures) in
     let k = spinner-read (now (start .args .r)) _ _ e in
@@ -57,7 +57,7 @@ returns-4 c =
 
 add-t13 : tie.Need-add-t13
 unfolding objectOf
-add-t13 c = 
+add-t13 c =
     let start = c .before .before .before .before .before .before .before .before .before .before .before .before .before .before .before .before .before in
     let e = so (c .before .before .before .before .before .before .before .before .before .before .before .before .before .item .given .1) (c .before .before .before .before .before .before .before .before .before .before .before .before .before .before .before .read-spinner .ensures) in
     let k = spinner-read (now (start .args .r)) _ _ e in
@@ -67,7 +67,7 @@ add-t13 c =
 
 process-next-requires : tie.Need-process-next-requires
 unfolding objectOf
-process-next-requires c κs = 
+process-next-requires c κs =
     let start = c .before .before .before .before .before .before .before .before .before .before .before .before .before .before .before .before .before in
     let e = so (c .before .before .before .before .before .before .before .before .before .before .before .before .before .item .given .1) (c .before .before .before .before .before .before .before .before .before .before .before .before .before .before .before .read-spinner .ensures) in
     let k = spinner-read (now (start .args .r)) _ _ e in
@@ -75,7 +75,7 @@ process-next-requires c κs =
     (start .pre .0 .1, read-few (now (start .args .r)) SP _ _ e k _ i)
 
 returns-5 : tie.Need-returns-5
-returns-5 c = 
+returns-5 c =
     let start = c .before .before .before .before .before .before .before .before .before .before .before .before .before .before .before .before .before .before in
     let e = so (c .before .before .before .before .before .before .before .before .before .before .before .before .before .before .item .given .1) (c .before .before .before .before .before .before .before .before .before .before .before .before .before .before .before .before .read-spinner .ensures) in
     let k = spinner-read (now (start .args .r)) _ _ e in

@@ -2,14 +2,14 @@
 use records::hit_object::HitObject;
 use records::hit_object::HitObjectKind;
 use records::hit_object::Slider;
-use records::hit_object::Spinner;
-use simulator::legacy_score::calculate_spinner_score;
+use simulator::legacy_score::NestedScorePerObject;
+use simulator::legacy_score_simulator::OsuLegacyScoreSimulator;
 ghost use mathlib.Core.Path.{_≡_};
 ghost use mathlib.Core.Bool.{true};
 ghost use Prim.Native.Nat.{_+_, _≤_};
 ghost use Rattle.rules.specs.Limits.{maxLevels, maxNested};
 ghost use Rattle.simulator.specs.Limits.{nestedCount};
-ghost use Rattle.entries.specs.Entry.{none, joined, firstOf, inLimits, SumOf, circleEntry, sliderEntry, spinnerEntry, ownEntry};
+ghost use Rattle.entries.specs.Entry.{none, joined, firstOf, inLimits, SumOf, entryWith, ownEntry};
 
 // Combo and combos_before are document 01's k and s, first_no_slider its f.
 pub struct Entry {
@@ -72,63 +72,47 @@ impl Entry {
         }
     }
 
-    fn circle() -> Self
-        ensures { λ r. ⌜ r ≡ circleEntry ⌝ }
+    // The sums of the simulator's state and counts, with the words of the board that these have not.
+    fn with(
+        score: OsuLegacyScoreSimulator,
+        nested: NestedScorePerObject,
+        combos_before: u64,
+        first_no_slider: u64,
+    ) -> Self
+        ensures { λ r. ⌜ r ≡ entryWith score nested «combos_before» «first_no_slider» ⌝ }
     {
         Entry {
-            object_count: 1,
-            combo: 1,
-            first_no_slider: 1,
-            accuracy_score: 300,
-            n_circles: 1,
-            ..Entry::new()
+            object_count: nested.object_count,
+            combo: score.combo,
+            combos_before,
+            first_no_slider,
+            accuracy_score: score.accuracy_score,
+            legacy_bonus_score: score.legacy_bonus_score.0,
+            standardised_bonus_score: score.standardised_bonus_score.0,
+            n_circles: nested.n_circles,
+            n_sliders: nested.n_sliders,
+            n_spinners: nested.n_spinners,
+            n_repeats: nested.n_repeats,
+            n_ticks: nested.amount_of_small_ticks,
+            spinner_score: nested.spinner_score,
         }
     }
 
-    fn slider(slider: Slider) -> Self
-        requires { ⌜ slider .repeats + slider .ticks + 1 ≤ maxNested ⌝ }
-        ensures { λ r. ⌜ r ≡ sliderEntry slider ⌝ }
-    {
-        let combo = slider.repeats + slider.ticks + 2;
-        Entry {
-            object_count: 1,
-            combo,
-            combos_before: combo,
-            accuracy_score: (slider.repeats + 2) * 30 + slider.ticks * 10 + 300,
-            n_sliders: 1,
-            n_repeats: slider.repeats,
-            n_ticks: slider.ticks,
-            ..Entry::new()
-        }
-    }
-
-    fn spinner(spinner: Spinner) -> Self
-        ensures { λ r. ⌜ r ≡ spinnerEntry spinner ⌝ }
-    {
-        let bonus = spinner::bonus(spinner.duration);
-        Entry {
-            object_count: 1,
-            combo: 1,
-            first_no_slider: 1,
-            accuracy_score: 300,
-            legacy_bonus_score: bonus.legacy.0,
-            standardised_bonus_score: bonus.standardised.0,
-            n_spinners: 1,
-            spinner_score: calculate_spinner_score(spinner),
-            ..Entry::new()
-        }
-    }
-
-    // That of one object.
+    // That of one object: what the simulator's own step makes of it.
     pub fn own(object: HitObject) -> Self
         requires { ⌜ nestedCount (object .kind) ≤ maxNested ⌝ }
         ensures { λ r. ⌜ r ≡ ownEntry (object .kind) ⌝ }
     {
         let kind = object.kind;
+        let score = OsuLegacyScoreSimulator::new();
+        let nested = NestedScorePerObject::new().process_next(object);
         match kind {
-            HitObjectKind::Circle => Entry::circle(),
-            HitObjectKind::Slider(slider) => Entry::slider(slider),
-            HitObjectKind::Spinner(spinner) => Entry::spinner(spinner),
+            HitObjectKind::Circle => Entry::with(score.circle(), nested, 0, 1),
+            HitObjectKind::Slider(slider) => {
+                let after = score.slider(slider);
+                Entry::with(after, nested, after.combo, 0)
+            }
+            HitObjectKind::Spinner(spinner) => Entry::with(score.spinner(spinner), nested, 0, 1),
         }
     }
 

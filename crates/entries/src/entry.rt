@@ -5,9 +5,9 @@ use records::hit_object::Slider;
 use simulator::legacy_score::NestedScorePerObject;
 use simulator::legacy_score_simulator::OsuLegacyScoreSimulator;
 ghost use mathlib.Core.Path.{_≡_};
-ghost use mathlib.Core.Bool.{true};
-ghost use Prim.Native.Nat.{_+_, _≤_};
-ghost use Rattle.rules.specs.Limits.{maxLevels, maxNested};
+ghost use mathlib.Core.Bool.{true, cond};
+ghost use Prim.Native.Nat.{_+_, _*_, _≤_};
+ghost use Rattle.rules.specs.Limits.{maxLevels, maxNested, maxObjects};
 ghost use Rattle.simulator.specs.Limits.{nestedCount};
 ghost use Rattle.entries.specs.Entry.{none, joined, firstOf, inLimits, SumOf, entryWith, ownEntry};
 
@@ -33,6 +33,12 @@ fn first(count: u64, a: u64, b: u64) -> u64
     ensures { λ r. ⌜ r ≡ firstOf count a b ⌝ }
 {
     if 0 < count { a } else { b }
+}
+
+fn choose(on: bool, yes: u64, no: u64) -> u64
+    ensures { λ r. ⌜ r ≡ cond on yes no ⌝ }
+{
+    if on { yes } else { no }
 }
 
 impl Entry {
@@ -145,6 +151,33 @@ impl Entry {
             combo: self.combo + b.combo,
             combos_before: self.combos_before + b.combos_before + self.combo * b.object_count,
             first_no_slider: first(self.object_count, self.first_no_slider, b.first_no_slider),
+            accuracy_score: self.accuracy_score + b.accuracy_score,
+            legacy_bonus_score: self.legacy_bonus_score + b.legacy_bonus_score,
+            standardised_bonus_score: self.standardised_bonus_score + b.standardised_bonus_score,
+            n_circles: self.n_circles + b.n_circles,
+            n_sliders: self.n_sliders + b.n_sliders,
+            n_spinners: self.n_spinners + b.n_spinners,
+            n_repeats: self.n_repeats + b.n_repeats,
+            n_ticks: self.n_ticks + b.n_ticks,
+            spinner_score: self.spinner_score + b.spinner_score,
+        }
+    }
+
+    // The same, or that of the objects of b and then those of self: the factors are chosen, so that a way up the tree takes no branch for its side.
+    pub fn join_at(self, b: Entry, leads: bool) -> Self
+        requires { ⌜ SumOf (maxLevels + 1) self × (self .«object_count» ≤ (maxLevels + 1) * maxObjects) × (inLimits b ≡ true) ⌝ }
+        ensures { λ r. ⌜ r ≡ cond leads (joined self b) (joined b self) ⌝ }
+    {
+        let combo = choose(leads, self.combo, b.combo);
+        let count = choose(leads, b.object_count, self.object_count);
+        let first_count = choose(leads, self.object_count, b.object_count);
+        let first_there = choose(leads, self.first_no_slider, b.first_no_slider);
+        let first_behind = choose(leads, b.first_no_slider, self.first_no_slider);
+        Entry {
+            object_count: self.object_count + b.object_count,
+            combo: self.combo + b.combo,
+            combos_before: self.combos_before + b.combos_before + combo * count,
+            first_no_slider: first(first_count, first_there, first_behind),
             accuracy_score: self.accuracy_score + b.accuracy_score,
             legacy_bonus_score: self.legacy_bonus_score + b.legacy_bonus_score,
             standardised_bonus_score: self.standardised_bonus_score + b.standardised_bonus_score,

@@ -65,11 +65,11 @@ pub fn after(a: Entry, read: Entry) -> Combined
     limit(a.join(read))
 }
 
-// The other half of the entry above e.
+// The other half of the entry above e: e with its last digit turned.
 fn beside(e: usize) -> usize
     ensures { λ r. ⌜ r ≡ besideOf e ⌝ }
 {
-    if e % 2 == 0 { e + 1 } else { e - 1 }
+    e ^ 1
 }
 
 // The entry above e, from v at e and what was read beside it.

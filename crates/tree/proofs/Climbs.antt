@@ -14,9 +14,9 @@ use Rattle.entries.specs.Words.{entryAt, putEntry}
 use Rattle.entries.specs.declared.entry.Entry.{Entry}
 use Rattle.tree.specs.Limited.{withoutLegacy, limited, combinedOf}
 use Rattle.tree.specs.Put.{besideOf, aboveOf, climbed, putOf, orElse}
-use Rattle.tree.specs.declared.Combined.the-variants as combined
-use Rattle.tree.specs.declared.Put.{Put}
-use Rattle.tree.specs.declared.Put.the-variants as put
+use Rattle.tree.specs.declared.combine.Combined.the-variants as combined
+use Rattle.tree.specs.declared.put.Put.{Put}
+use Rattle.tree.specs.declared.put.Put.the-variants as put
 use Rattle.rules.proofs.Laws.{never}
 use Rattle.entries.proofs.Limits.{word-le}
 use Rattle.tree.proofs.Light.{light-of, legacy-in}

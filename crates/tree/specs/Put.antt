@@ -10,8 +10,8 @@ use Rattle.entries.specs.Entry.{joined, inLimits}
 use Rattle.entries.specs.Words.{entryAt, putEntry}
 use Rattle.entries.specs.declared.entry.Entry.{Entry}
 use Rattle.tree.specs.Limited.{limited}
-use Rattle.tree.specs.declared.Put.{Put}
-use Rattle.tree.specs.declared.Put.the-variants as put
+use Rattle.tree.specs.declared.put.Put.{Put}
+use Rattle.tree.specs.declared.put.Put.the-variants as put
 
 -- the other half of the entry above e
 abbrev pub besideOf : ℕ → ℕ

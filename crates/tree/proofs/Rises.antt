@@ -6,21 +6,21 @@ use mathlib.Core.Logic.{_≢_}
 use mathlib.Core.Bool.{Bool, true, false, cond}
 use mathlib.Core.List.{List}
 use native.Mathlib.Omega.{arith}
-use native.Mathlib.Nat.{pow-suc, suc-ne-zero, not-suc-le-zero}
+use native.Mathlib.Nat.{pow-suc, suc-ne-zero}
 use native.Mathlib.Decide.{ℕ-discrete}
 use borrow.Author.Tests.{eq-eqb, ne-eqb}
 use lib.Dec.{eqb, lit<}
 use lib.ListN.{length}
 use lib.Pow.{pow-pos}
-use Rattle.rules.specs.Limits.{maxLevels, maxObjects, maxBonus}
+use Rattle.rules.specs.Limits.{maxLevels, maxObjects}
 use Rattle.rules.specs.Refusals.{good}
-use Rattle.entries.specs.Entry.{joined, inLimits, SumOf, entryWords, placeWords}
+use Rattle.entries.specs.Entry.{joined, inLimits, SumOf, placeWords}
 use Rattle.entries.specs.Words.{entryAt, putEntry}
 use Rattle.entries.specs.declared.entry.Entry.{Entry}
 use Rattle.entries.proofs.Limits.{word-le, word-joined, first-most, sum-of-entry, sum-of-more, sum-of-joined, sum-of-led}
-use Rattle.entries.proofs.WordLaws.{put-other, put-past, put-length}
+use Rattle.entries.proofs.WordLaws.{put-same, put-other, put-past, put-length}
 use Rattle.tree.specs.Put.{besideOf, aboveOf, climbed, joinedAt, topOf, ReadsIn, Clear, writtenUp}
-use Rattle.tree.proofs.Climbs.{beside-pair, above-is, limited-in-limits, goes-on}
+use Rattle.tree.proofs.Climbs.{above-is, limited-in-limits, goes-on}
 use Rattle.tree.proofs.Within.{parts-in}
 
 -- ---- the way up
@@ -60,11 +60,16 @@ written-put : (n : ℕ) (b : List ℕ) (p x : ℕ) (u w : Entry) → 2 ^ n ≤ p
 unfolding writtenUp
 written-put zero b p x u w path h = put-past b p x u w (omega arith)
 written-put (suc n) b p x u w path h =
-    let past : putEntry (putEntry b x w) p u ≡ putEntry (putEntry b p u) x w = put-past b p x u w (let two = path-two n p path in omega arith) in
-    let read = put-other (putEntry b p u) x (besideOf p) w (beside-below p x (path-two n p path) h) in
-    ap (λ (l : List ℕ). writtenUp n l (p / 2) (joinedAt p u (entryAt l (besideOf p)))) past
-    ∙ ap (λ (y : Entry). writtenUp n (putEntry (putEntry b p u) x w) (p / 2) (joinedAt p u y)) read
-    ∙ written-put n (putEntry b p u) (p / 2) x (joinedAt p u (entryAt (putEntry b p u) (besideOf p))) w (half-path n p path) (omega arith)
+    let two = path-two n p path in
+    ap₂ (λ (l : List ℕ) (y : Entry). writtenUp n l (p / 2) (joinedAt p u y)) (put-past b p x u w (omega arith)) (put-other b x (besideOf p) w (beside-below p x two h))
+    ∙ written-put n (putEntry b p u) (p / 2) x (joinedAt p u (entryAt b (besideOf p))) w (half-path n p path) (omega arith)
+
+top-put : (n : ℕ) (b : List ℕ) (p x : ℕ) (u w : Entry) → 2 ^ n ≤ p → 2 * p ≤ x → topOf n (putEntry b x w) p u ≡ topOf n b p u
+unfolding topOf
+top-put zero b p x u w path h = refl
+top-put (suc n) b p x u w path h =
+    ap (λ (y : Entry). topOf n (putEntry b x w) (p / 2) (joinedAt p u y)) (put-other b x (besideOf p) w (beside-below p x (path-two n p path) h))
+    ∙ top-put n b (p / 2) x (joinedAt p u (entryAt b (besideOf p))) w (half-path n p path) (omega arith)
 
 -- ---- one level up
 
@@ -74,6 +79,12 @@ either P x y false h g = g
 
 joined-either : (P : Entry → Type 0) (e : ℕ) (v w : Entry) → P (joined v w) → P (joined w v) → P (joinedAt e v w)
 joined-either P e v w = either P (joined v w) (joined w v) (eqb (e % 2) 0)
+
+even-side : (e : ℕ) (v w : Entry) → e % 2 ≡ 0 → joined v w ≡ joinedAt e v w
+even-side e v w d = simp (eq-eqb _ _ d)
+
+odd-side : (e : ℕ) (v w : Entry) → e % 2 ≢ 0 → joined w v ≡ joinedAt e v w
+odd-side e v w d = simp (ne-eqb _ _ d)
 
 joined-first : (e : ℕ) (v w : Entry) → v .«first_no_slider» ≤ 1 → w .«first_no_slider» ≤ 1 → joinedAt e v w .«first_no_slider» ≤ 1
 joined-first e v w hv hw = joined-either (λ (j : Entry). j .«first_no_slider» ≤ 1) e v w (first-most v w 1 hv hw) (first-most w v 1 hw hv)
@@ -96,13 +107,12 @@ clear-good (suc n) b e v path first r top =
     let z : suc n - 1 ≡ n = omega arith in
     let on = goes-on b e v w refl u q (suc n) (writtenUp n b (e / 2) u) (suc-ne-zero n) (ap (λ (m : ℕ). climbed m b (e / 2) u) z ∙ ih .1) in
     let up = written-put n b (e / 2) e u v (half-path n e path) (omega arith) in
-    let read : entryAt (putEntry b e v) (besideOf e) ≡ w = put-other b e (besideOf e) v (beside-off e) in
-    (joined-part e v w first first-w (ih .0), on ∙ ap good (sym up ∙ ap (λ (y : Entry). writtenUp n (putEntry b e v) (e / 2) (joinedAt e v y)) (sym read)))
+    (joined-part e v w first first-w (ih .0), on ∙ ap good (sym up))
 
 pub clear-climbs : (n : ℕ) (b : List ℕ) (e : ℕ) (v : Entry) → inLimits v ≡ true → Clear n b e v → climbed n b e v ≡ good (writtenUp n b e v)
 clear-climbs n b e v fit c = clear-good n b e v (c .path) (word-le v fit 3 (lit< tt)) (c .reads) (c .top) .1
 
--- ---- what both passes keep: how many entries the sum is of, so that the next join fits
+-- ---- the first pass: how many entries the sum is of, so that the next join fits
 
 pub record Rising (levels left at : ℕ) (sum : Entry) : Type 0 where
   pub taken : ℕ
@@ -152,8 +162,7 @@ module _ {levels left at : ℕ} {sum : Entry} (k : Rising levels left at sum) (s
           let l = low in
           omega (arith, e, c, l)
 
--- ---- the first pass
-
+-- the sum is that of the way so far
 pub record Climbing (b : List ℕ) (levels e : ℕ) (v : Entry) (left at : ℕ) (sum : Entry) : Type 0 where
   pub rising : Rising levels left at sum
   pub room : at / 2 * placeWords + placeWords ≤ length b
@@ -190,49 +199,83 @@ module _ {b : List ℕ} {levels e : ℕ} {v : Entry} {left at : ℕ} {sum : Entr
 -- ---- the second pass
 
 pub record Writing (b₀ : List ℕ) (levels e : ℕ) (v : Entry) (b : List ℕ) (left at : ℕ) (sum : Entry) : Type 0 where
-  pub rising : Rising levels left at sum
+  pub clear : Clear left b at sum
+  pub first : sum .«first_no_slider» ≤ 1
   pub room : at / 2 * placeWords + placeWords ≤ length b
   pub size : length b ≡ length b₀
-  pub reads : ReadsIn left b at
   pub written : writtenUp left b at sum ≡ writtenUp levels b₀ e v
 
 pub writing-start : (b : List ℕ) (levels e : ℕ) (v : Entry) → Clear levels b e v → inLimits v ≡ true → e / 2 * placeWords + placeWords ≤ length b → Writing b levels e v b levels e v
-writing-start b levels e v c fit room = record { rising = rising-start levels e v (c .path) fit; room = room; size = refl; reads = c .reads; written = refl }
+writing-start b levels e v c fit room = record { clear = c; first = word-le v fit 3 (lit< tt); room = room; size = refl; written = refl }
 
 module _ {b₀ : List ℕ} {levels e : ℕ} {v : Entry} {b : List ℕ} {left at : ℕ} {sum : Entry} (k : Writing b₀ levels e v b left at sum) where
-  -- what is read behind the store is what was there
-  still : (b′ : List ℕ) → b′ ≡ putEntry b at sum → entryAt b′ (besideOf at) ≡ entryAt b (besideOf at)
-  still b′ is = ap (λ (l : List ℕ). entryAt l (besideOf at)) is ∙ put-other b at (besideOf at) sum (beside-off at)
+  abbrev read : Entry
+  read = entryAt b (besideOf at)
 
-  read-in-from : (n : ℕ) → left ≡ suc n → inLimits (entryAt b (besideOf at)) ≡ true
+  read-in-from : (n : ℕ) → left ≡ suc n → inLimits read ≡ true
   unfolding ReadsIn
-  read-in-from n is = subst (λ (m : ℕ). ReadsIn m b at) is (k .reads) .0
+  read-in-from n is = subst (λ (m : ℕ). ReadsIn m b at) is (k .clear .reads) .0
 
-  pub read-in : 0 < left → (b′ : List ℕ) → b′ ≡ putEntry b at sum → (w : Entry) → w ≡ entryAt b′ (besideOf at) → inLimits w ≡ true
-  read-in some b′ is w read = ap inLimits (read ∙ still b′ is) ∙ read-in-from (left - 1) (omega (arith, some))
+  sum-in : inLimits sum ≡ true
+  sum-in = clear-good left b at sum (k .clear .path) (k .first) (k .clear .reads) (k .clear .top) .0
 
-  writes-from : (n : ℕ) → left ≡ suc n → levels ≤ maxLevels → (w : Entry) → w ≡ entryAt (putEntry b at sum) (besideOf at) → inLimits w ≡ true
-      → Writing b₀ levels e v (putEntry b at sum) n (at / 2) (joinedAt at sum w)
-  unfolding ReadsIn writtenUp
-  writes-from n is short w read fit =
-      let up = rising-next (k .rising) short n is w fit in
-      let r = subst (λ (m : ℕ). ReadsIn m b at) is (k .reads) in
-      let done = subst (λ (m : ℕ). writtenUp m b at sum ≡ writtenUp levels b₀ e v) is (k .written) in
-      let same = put-length b at sum in
-      let room = k .room in
-      record {
-        rising = up;
-        room = omega (arith, room, same);
-        size = same ∙ k .size;
-        reads = reads-put n b (at / 2) at sum (up .path) (omega arith) (r .1);
-        written = ap (λ (y : Entry). writtenUp n (putEntry b at sum) (at / 2) (joinedAt at sum y)) read ∙ done;
-      }
+  -- the two halves as they stand behind the store
+  module _ (some : 0 < left) (b′ : List ℕ) (is : b′ ≡ putEntry b at sum) (l r : Entry) (at-l : l ≡ entryAt b′ (at / 2 * 2)) (at-r : r ≡ entryAt b′ (at / 2 * 2 + 1)) where
+    stands : (x : ℕ) → x ≡ at → entryAt b′ x ≡ sum
+    stands x e = ap₂ entryAt is e ∙ put-same b at sum (let room = k .room in omega (arith, room))
 
-  pub writing-next : 0 < left → levels ≤ maxLevels → (b′ : List ℕ) → b′ ≡ putEntry b at sum → (w : Entry) → w ≡ entryAt b′ (besideOf at)
-      → Writing b₀ levels e v b′ (left - 1) (at / 2) (joinedAt at sum w)
-  writing-next some short b′ is w read =
-      subst (λ (l : List ℕ). Writing b₀ levels e v l (left - 1) (at / 2) (joinedAt at sum w)) (sym is)
-      (writes-from (left - 1) (omega (arith, some)) short w (read ∙ ap (λ (l : List ℕ). entryAt l (besideOf at)) is) (read-in some b′ is w read))
+    beside : (x : ℕ) → x ≡ besideOf at → entryAt b′ x ≡ read
+    beside x e = ap₂ entryAt is e ∙ put-other b at (besideOf at) sum (beside-off at)
+
+    -- which is which
+    abbrev Halves : Type 0
+    Halves = (inLimits l ≡ true) × (inLimits r ≡ true) × (joined l r ≡ joinedAt at sum read)
+
+    halves-in : Dec (at % 2 ≡ 0) → Halves
+    halves-in (yes d) =
+        let here : at / 2 * 2 ≡ at = omega (arith, d) in
+        let other : at / 2 * 2 + 1 ≡ besideOf at = simp (eq-eqb _ _ d) (omega (arith, here)) in
+        let is-l = at-l ∙ stands (at / 2 * 2) here in
+        let is-r = at-r ∙ beside (at / 2 * 2 + 1) other in
+        (ap inLimits is-l ∙ sum-in, ap inLimits is-r ∙ read-in-from (left - 1) (omega (arith, some)), ap₂ joined is-l is-r ∙ even-side at sum read d)
+    halves-in (no d) =
+        let here : at / 2 * 2 + 1 ≡ at = omega (arith, d) in
+        let other : at / 2 * 2 ≡ besideOf at = simp (ne-eqb _ _ d) (omega (arith, here)) in
+        let is-l = at-l ∙ beside (at / 2 * 2) other in
+        let is-r = at-r ∙ stands (at / 2 * 2 + 1) here in
+        (ap inLimits is-l ∙ read-in-from (left - 1) (omega (arith, some)), ap inLimits is-r ∙ sum-in, ap₂ joined is-l is-r ∙ odd-side at sum read d)
+
+    pub halves : Halves
+    halves = halves-in (ℕ-discrete (at % 2) 0)
+
+    writes-from : (n : ℕ) → left ≡ suc n → Writing b₀ levels e v (putEntry b at sum) n (at / 2) (joinedAt at sum read)
+    unfolding ReadsIn topOf writtenUp
+    writes-from n suc-n =
+        let c = k .clear in
+        let path = half-path n at (subst (λ (m : ℕ). 2 ^ m ≤ at) suc-n (c .path)) in
+        let reads = subst (λ (m : ℕ). ReadsIn m b at) suc-n (c .reads) in
+        let top = subst (λ (m : ℕ). inLimits (topOf m b at sum) ≡ true) suc-n (c .top) in
+        let done = subst (λ (m : ℕ). writtenUp m b at sum ≡ writtenUp levels b₀ e v) suc-n (k .written) in
+        let same = put-length b at sum in
+        let room = k .room in
+        let few = c .few in
+        record {
+          clear = record {
+            few = omega (arith, few, suc-n);
+            path = path;
+            reads = reads-put n b (at / 2) at sum path (omega arith) (reads .1);
+            top = ap inLimits (top-put n b (at / 2) at (joinedAt at sum read) sum path (omega arith)) ∙ top;
+          };
+          first = joined-first at sum read (k .first) (word-le read (reads .0) 3 (lit< tt));
+          room = omega (arith, room, same);
+          size = same ∙ k .size;
+          written = done;
+        }
+
+    pub writing-next : (u : Entry) → u ≡ joined l r → Writing b₀ levels e v b′ (left - 1) (at / 2) u
+    writing-next u is-u =
+        subst (λ (x : Entry). Writing b₀ levels e v b′ (left - 1) (at / 2) x) (sym (is-u ∙ halves .2))
+        (subst (λ (m : List ℕ). Writing b₀ levels e v m (left - 1) (at / 2) (joinedAt at sum read)) (sym is) (writes-from (left - 1) (omega (arith, some))))
 
   pub writing-end : left ≤ 0 → putEntry b at sum ≡ writtenUp levels b₀ e v
   unfolding writtenUp

@@ -64,4 +64,4 @@ pub record Clear (n : ℕ) (b : List ℕ) (e : ℕ) (v : Entry) : Type 0 where
 -- v at entry e and what follows from it at the n entries above, from the bottom up
 unfoldable pub writtenUp : ℕ → List ℕ → ℕ → Entry → List ℕ
 writtenUp zero b e v = putEntry b e v
-writtenUp (suc n) b e v = writtenUp n (putEntry b e v) (e / 2) (joinedAt e v (entryAt (putEntry b e v) (besideOf e)))
+writtenUp (suc n) b e v = writtenUp n (putEntry b e v) (e / 2) (joinedAt e v (entryAt b (besideOf e)))

@@ -100,7 +100,7 @@ fn is_clear(b: &[u64], levels: usize, e: usize, v: Entry) -> bool
     sum.within()
 }
 
-// Writes v and what follows from it above, from the bottom up.
+// Writes v and what follows from it above, from the bottom up: both halves of the next entry stand then.
 fn write_up(b: &mut [u64], levels: usize, e: usize, v: Entry)
     requires { ⌜ (e / 2 * placeWords + placeWords ≤ length (now b)) × (inLimits v ≡ true) × Clear levels (now b) e v ⌝ }
     ensures { λ _. ⌜ now (b .exit) ≡ writtenUp levels (now (b .entry)) e v ⌝ }
@@ -110,8 +110,8 @@ fn write_up(b: &mut [u64], levels: usize, e: usize, v: Entry)
     let mut sum = v;
     while 0 < left {
         store(b, at, sum);
-        sum = joined_at(at, sum, load(b, beside(at)));
         at = at / 2;
+        sum = load(b, at * 2).join(load(b, at * 2 + 1));
         left -= 1;
     }
     store(b, at, sum);

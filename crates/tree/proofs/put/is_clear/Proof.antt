@@ -7,7 +7,6 @@ use borrow.Author.Needs.{needs}
 use borrow.Author.Tests.{not-false}
 use denote.Ref.{now}
 use Rattle.numbers.proofs.rounding.Closest.{one-shl}
-use Rattle.rules.specs.Limits.{maxLevels}
 use Rattle.rules.proofs.Laws.{so}
 use Rattle.entries.specs.Entry.{inLimits}
 use Rattle.entries.specs.Words.{entryAt}

@@ -1,13 +1,9 @@
 -- Writing what is left of the way, from the words as they stand, gives what writing all of it at first did.
-use Prim.Native.Nat.{ℕ, _/_}
-use mathlib.Core.Path.{_≡_, sym, ap, subst, _∙_}
-use mathlib.Core.Bool.{true}
+use mathlib.Core.Path.{_∙_}
 use native.Mathlib.Omega.{arith}
 use borrow.Author.Needs.{needs}
-use Rattle.entries.specs.Entry.{inLimits}
-use Rattle.entries.specs.Words.{entryAt}
-use Rattle.tree.proofs.Climbs.{beside-pair}
-use Rattle.tree.proofs.Rises.{Writing, writing-start, writing-next, writing-end, read-in, sum-fits}
+use Rattle.entries.proofs.Limits.{sum-of-one}
+use Rattle.tree.proofs.Rises.{Writing, writing-start, writing-next, writing-end, halves}
 use Rattle.tree.proofs.put.write_up.Statement.{statement}
 use Rattle.tree.proofs.put.write_up.Tie as tie
 
@@ -25,24 +21,28 @@ loop-holds c =
 store-requires : tie.Need-store-requires Inv-loop μ-loop
 store-requires c κs = let room = c .before .before .loop .inv .room in omega (arith, room)
 
-beside-requires : tie.Need-beside-requires Inv-loop μ-loop
-beside-requires c κs = search needs
+mul-load : tie.Need-mul-load Inv-loop μ-loop
+mul-load c = let room = c .before .before .before .before .before .before .loop .inv .room in omega (arith, room)
 
 load-requires : tie.Need-load-requires Inv-loop μ-loop
-load-requires c κs =
-    let store = c .before .before .before .before in
-    let loop = store .before .before .before .loop in
-    let room = loop .inv .room in
-    let same = store .store .kept .0 in
-    let pair = ap (λ (n : ℕ). n / 2) (c .beside .ensures) ∙ beside-pair (loop .at) in
-    omega (arith, room, same, pair)
+load-requires c κs = let room = c .before .before .before .before .before .before .loop .inv .room in let same = c .before .before .before .store .kept .0 in omega (arith, room, same)
 
-joined-at-requires : tie.Need-joined-at-requires Inv-loop μ-loop
-joined-at-requires c κs =
-    let test = c .before .before .before .before .before .before .before in
-    let loop = test .before in
-    let fits = sum-fits (loop .loop .inv .rising) (loop .before .before .pre .2 .few) in
-    (fits .0, fits .1, read-in (loop .loop .inv) (test .loop-test .taken) _ (c .before .before .before .before .before .store .ensures) _ (c .load .ensures ∙ ap (entryAt _) (c .before .beside .ensures)))
+mul-load-2 : tie.Need-mul-load-2 Inv-loop μ-loop
+mul-load-2 c = let room = c .before .before .before .before .before .before .before .before .loop .inv .room in omega (arith, room)
+
+add-load : tie.Need-add-load Inv-loop μ-loop
+add-load c = let room = c .before .before .before .before .before .before .before .before .loop .inv .room in omega (arith, room)
+
+load-requires-2 : tie.Need-load-requires-2 Inv-loop μ-loop
+load-requires-2 c κs = let room = c .before .before .before .before .before .before .before .before .loop .inv .room in let same = c .before .before .before .before .before .store .kept .0 in omega (arith, room, same)
+
+join-requires : tie.Need-join-requires Inv-loop μ-loop
+join-requires c κs =
+    let at1 = c .before .before in
+    let at2 = at1 .before .before .before .before in
+    let at3 = at2 .before .before in
+    let read = halves (at3 .before .loop .inv) (at3 .loop-test .taken) _ (at2 .store .ensures) _ _ (at1 .load .ensures) (c .load2 .ensures) in
+    (sum-of-one _ (read .0), read .1)
 
 sub-left : tie.Need-sub-left Inv-loop μ-loop
 sub-left c = search needs
@@ -52,11 +52,11 @@ loop-less c = search needs
 
 loop-again : tie.Need-loop-again Inv-loop μ-loop
 loop-again c =
-    let read = c .before in
-    let test = c .before .before .before .before .before .before .before .before in
-    let loop = test .before in
-    subst (Writing _ _ _ _ _ _ _) (sym (c .joined-at .ensures)) (writing-next (loop .loop .inv) (test .loop-test .taken) (loop .before .before .pre .2 .few) _ (c .before .before .before .before .before .before .store .ensures) (read .load .result)
-    (read .load .ensures ∙ ap (entryAt _) (read .before .beside .ensures)))
+    let at1 = c .before in
+    let at2 = at1 .before .before in
+    let at3 = at2 .before .before .before .before in
+    let at4 = at3 .before .before in
+    writing-next (at4 .before .loop .inv) (at4 .loop-test .taken) _ (at3 .store .ensures) _ _ (at2 .load .ensures) (at1 .load2 .ensures) _ (c .join .ensures)
 
 store-requires-2 : tie.Need-store-requires-2 Inv-loop μ-loop
 store-requires-2 c κs = let room = c .before .before .loop .inv .room in omega (arith, room)
@@ -75,9 +75,12 @@ write-up-spec =
     μ-loop
     loop-holds
     store-requires
-    beside-requires
+    mul-load
     load-requires
-    joined-at-requires
+    mul-load-2
+    add-load
+    load-requires-2
+    join-requires
     sub-left
     loop-less
     loop-again

@@ -10,7 +10,7 @@ use records::hit_object::read_object;
 use records::record::Read;
 use records::record::Record;
 use rules::refusal;
-use tree::Put;
+use tree::put::Put;
 ghost use mathlib.Core.Path.{_≡_};
 ghost use Rattle.board.specs.Place.{writtenOf, writtenLeft};
 ghost use Rattle.board.specs.Edit.{onlyOf, objectIn, aloneOf, editOf};

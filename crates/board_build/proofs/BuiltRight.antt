@@ -27,7 +27,7 @@ use Rattle.entries.proofs.Scores.{counts-are}
 use Rattle.tree.specs.Size.{levelsOf, capOf}
 use Rattle.tree.specs.Board.{boardOf, startsOf}
 use Rattle.tree.specs.Build.{laid, emptied, Raises, filled}
-use Rattle.tree.specs.declared.Size.{Size}
+use Rattle.tree.specs.declared.size.Size.{Size}
 use Rattle.tree.proofs.Levels.{levels-hold}
 use Rattle.tree.proofs.BuildRight.{laid-length, fills, build-right}
 use Rattle.board.specs.Place.{roomFor, roomOf, Holds, writtenLeft}

@@ -28,7 +28,7 @@ use records::hit_object::HitObject;
 use scoring::score::score_map;
 use scoring::score::score_play;
 use scoring::score::score_play_at;
-use tree::size_of;
+use tree::size::size_of;
 ghost use mathlib.Core.Path.{_≡_};
 ghost use Rattle.map_file.specs.File.{fileOf};
 ghost use Rattle.map_file.specs.View.{answerOf};

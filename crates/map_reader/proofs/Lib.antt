@@ -6,3 +6,5 @@ pub mod Files
 pub mod Runs
 pub mod Breaks
 pub mod Mapping
+pub mod Passed
+pub mod Attributed

@@ -16,10 +16,10 @@ use records::record::Record;
 use rules::refusal;
 use simulator::attributes::ScoreAttributes;
 ghost use mathlib.Core.Path.{_≡_};
-ghost use Prim.Native.Nat.{_≤_};
 ghost use lib.ListN.{length, drop};
 ghost use Rattle.map_file.specs.File.{fileOf};
-ghost use Rattle.play_reader.specs.Plays.{playIn, answerOf, simulatedOf, MapFileOf};
+ghost use Rattle.play_reader.specs.Plays.{playIn, MapFileOf};
+ghost use Rattle.play_reader.specs.View.{lastRank, readerIn, answerOf, simulatedOf};
 
 // The play of a record, or the number of its refusal.
 pub enum PlayRead {
@@ -92,11 +92,30 @@ pub fn read_file(s: &[u8], passed: u64) -> MapFile
 }
 
 // The place in the order of a file's last record.
-fn last_rank(s: &[u8], map: Map) -> u8 {
+fn last_rank(s: &[u8], map: Map) -> u8
+    ensures { λ r. ⌜ r ≡ lastRank (length (now (s .entry))) map ⌝ }
+{
     if map.end < s.len() {
         return PLAY_RANK;
     }
     rank_behind(map.breaks, map.objects)
+}
+
+// The reader behind a file's last record.
+fn reader_in(s: &[u8], map: Map) -> Reader
+    ensures { λ r. ⌜ r ≡ readerIn (length (now (s .entry))) map ⌝ }
+{
+    let settings = map.settings;
+    Reader {
+        at: s.len(),
+        settings,
+        counts: Counts {
+            last: last_rank(s, map),
+            breaks: map.breaks,
+            objects: map.objects,
+            bonus: map.passed.score.legacy_bonus_score.0,
+        },
+    }
 }
 
 // The map file: its sums, or the first refusal.
@@ -105,19 +124,7 @@ pub fn read_map(s: &[u8]) -> Answer
 {
     match read_file(s, u64::MAX) {
         MapFile::Refused { number, offset } => Answer::Refused { number, offset },
-        MapFile::Good(map) => {
-            let settings = map.settings;
-            Answer::Map(Reader {
-                at: s.len(),
-                settings,
-                counts: Counts {
-                    last: last_rank(s, map),
-                    breaks: map.breaks,
-                    objects: map.objects,
-                    bonus: map.passed.score.legacy_bonus_score.0,
-                },
-            })
-        }
+        MapFile::Good(map) => Answer::Map(reader_in(s, map)),
     }
 }
 

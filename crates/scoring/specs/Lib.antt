@@ -1,3 +1,3 @@
 pub mod Scores
+pub mod Marks
 pub mod View
-pub mod Reached

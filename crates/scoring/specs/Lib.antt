@@ -1,3 +1,2 @@
 pub mod Scores
-pub mod Marks
 pub mod View

@@ -1,7 +1,7 @@
 // The plays of a map file, each checked on the map that stands before it.
-use crate::marks::mark_before;
-use crate::marks::marks_of;
-use crate::marks::score_from;
+use marks::mark_before;
+use marks::marks_of;
+use marks::score_from;
 use map_reader::attributes::attributes_of;
 use map_reader::map::Map;
 use map_reader::map::MapRead;

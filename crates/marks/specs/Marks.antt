@@ -13,7 +13,7 @@ use Rattle.map_reader.specs.declared.objects.Ran.the-variants as ran
 use Rattle.map_reader.specs.declared.map.Map.{Map}
 use Rattle.play_score.specs.PlayRules.{playScore, scoredOf}
 use Rattle.play_score.specs.declared.Scored.{Scored}
-use Rattle.scoring.specs.declared.marks.Marks.{Marks}
+use Rattle.marks.specs.declared.Marks.{Marks}
 
 abbrev pub strideOf : ℕ → ℕ
 strideOf objects = objects / 128 + 1

@@ -13,7 +13,7 @@ ghost use mathlib.Core.Path.{_≡_};
 ghost use Prim.Native.Nat.{_≤_, _<_};
 ghost use Rattle.rules.specs.Limits.{maxObjects};
 ghost use Rattle.map_reader.specs.Objects.{Small};
-ghost use Rattle.scoring.specs.Marks.{strideOf, stateOr, IsMap, MarksOf, markBefore, IsMark, scoredFrom};
+ghost use Rattle.marks.specs.Marks.{strideOf, stateOr, IsMap, MarksOf, markBefore, IsMark, scoredFrom};
 
 // The i-th is behind i strides of objects.
 pub struct Marks {

@@ -13,18 +13,25 @@ use Rattle.rules.specs.Refusals.{Checked, good, refused, _>>=_, _>>_, refuse_wh
 use Rattle.rules.proofs.All.{All, none, that, all-any, all-when, all-out}
 use Rattle.rules.proofs.Laws.{never}
 use Rattle.records.specs.Objects.{bonus}
-use Rattle.records.specs.Records.{Content, header, break, object, play, FoundRecord, CI, SL, SP, playOf}
+use Rattle.records.specs.Records.{Content, header, break, object, play, FoundRecord, contentView, recordRead, CI, SL, SP, playOf}
+use Rattle.records.specs.declared.beatmap.Settings.{Settings}
+use Rattle.records.specs.declared.beatmap.BreakPeriod.{BreakPeriod}
+use Rattle.records.specs.declared.hit_object.HitObject.{HitObject}
+use Rattle.records.specs.declared.record.Record.{Record}
+use Rattle.records.specs.declared.record.Record.the-variants as record·case
+use Rattle.records.specs.declared.record.Read.the-variants as record·read
 use Rattle.play_state.specs.declared.Play.{Play}
 use Rattle.map_file.specs.Order.{MH, BR, PL, rankOf, inOrder, isFull, overBonus, contentBonus, bodyOf, recordOf}
 use Rattle.map_file.specs.File.{File, accepted, refusedAt, countsOf, with-record, ended, fileOf}
 use Rattle.map_file.specs.View.{view}
 use Rattle.map_file.specs.declared.file.Counts.{Counts}
 use Rattle.map_file.proofs.Reading.{Chain, longer, chain-on, chain-inside, on-stop, on-end, foundAt, with-at}
-use Rattle.map_reader.specs.Map.{MapIs, Behind, nothing, plays, StateOf}
-use Rattle.map_reader.specs.Objects.{bonusOf}
+use Rattle.map_reader.specs.Map.{MapIs, MapReadOf, is, Behind, nothing, plays}
+use Rattle.map_reader.specs.declared.map.MapRead.the-variants as map·read
 use Rattle.map_reader.specs.declared.map.Map.{Map}
 use Rattle.map_reader.proofs.Attributed.{limits}
 use Rattle.play_reader.specs.Plays.{playRecord, playWith, playBy, playIn, Place, first, later, Reached}
+use Rattle.play_reader.specs.declared.PlayRead.{PlayRead}
 use Rattle.play_reader.specs.declared.PlayRead.the-variants as read
 
 -- ---- the record of a play
@@ -58,6 +65,64 @@ play-refused r n e = go (playRecord r) refl (play-only r) e
     go : (x : FoundRecord) → playRecord r ≡ x → All (λ f. PlayOnly (f .0) (f .1)) x → read.Refused n ≡ playBy x → playRecord r ≡ refused n
     go (refused m) q a e = let same : m ≡ n = cc in q ∙ ap refused same
     go (good f) q a e = by-content (f .0) (f .1) (all-out a) e
+
+-- ---- what the code read, of a record of two bytes and more
+pub in-none : (s : List ℕ) (at : ℕ) → length s ≤ at → read.Refused 2 ≡ playIn (drop at s)
+unfolding playRecord _>>_ refuse_when_
+in-none s at h = let e = length-drop at s in rw (lt-ltb (length (drop at s)) 2 (omega (arith, e, h)))
+
+pub in-cut : (r : List ℕ) → length r < 2 → read.Refused 2 ≡ playIn r
+unfolding playRecord _>>_ refuse_when_
+in-cut r h = rw (lt-ltb (length r) 2 h)
+
+module _ (r : List ℕ) (two : 2 ≤ length r) (m : ℕ) (e : m ≡ wordAt r 0 2) where
+  pub in-other : (m ≡ PL → ⊥) → read.Refused 3 ≡ playIn r
+  unfolding playRecord _>>_ refuse_when_
+  in-other h = rw (le-ltb (length r) 2 two, ne-eqb (wordAt r 0 2) PL (λ z. h (e ∙ z)))
+
+  module _ (is : m ≡ PL) where
+    body-is : playRecord r ≡ playOf r
+    unfolding playRecord _>>_ refuse_when_
+    body-is = rw (le-ltb (length r) 2 two, sym e ∙ is)
+
+    pub in-refused : (n : ℕ) → record·read.Refused n ≡ recordRead (playOf r) → read.Refused n ≡ playIn r
+    in-refused n h = go (playOf r) h ∙ ap playBy (sym body-is)
+      where
+        go : (x : FoundRecord) → record·read.Refused n ≡ recordRead x → read.Refused n ≡ playBy x
+        go (refused k) h = let same : n ≡ k = cc in ap read.Refused same
+        go (good f) h = never (cc)
+
+    module _ (item : Record) (n : ℕ) (h : record·read.Good item n ≡ recordRead (playOf r)) where
+      in-content : (g : Record → PlayRead) → ((x : Content) → g (contentView x) ≡ playWith x) → g item ≡ playIn r
+      in-content g k = go (playOf r) h ∙ ap playBy (sym body-is)
+        where
+          go : (x : FoundRecord) → record·read.Good item n ≡ recordRead x → g item ≡ playBy x
+          go (refused i) h = never (cc)
+          go (good f) h = let same : item ≡ contentView (f .0) = cc in ap g same ∙ k (f .0)
+
+      abbrev told : Record → PlayRead
+      told (record·case.Header t) = read.Refused 3
+      told (record·case.Break b) = read.Refused 3
+      told (record·case.Object o) = read.Refused 3
+      told (record·case.Play p) = read.Is p
+
+      told-is : (x : Content) → told (contentView x) ≡ playWith x
+      told-is (header t) = refl
+      told-is (break b) = refl
+      told-is (object o) = refl
+      told-is (play p) = refl
+
+      pub in-play : (p : Play) → item ≡ record·case.Play p → read.Is p ≡ playIn r
+      in-play p i = sym (ap told i) ∙ in-content told told-is
+
+      pub in-header : (t : Settings) → item ≡ record·case.Header t → read.Refused 3 ≡ playIn r
+      in-header t i = sym (ap told i) ∙ in-content told told-is
+
+      pub in-break : (b : BreakPeriod) → item ≡ record·case.Break b → read.Refused 3 ≡ playIn r
+      in-break b i = sym (ap told i) ∙ in-content told told-is
+
+      pub in-object : (o : HitObject) → item ≡ record·case.Object o → read.Refused 3 ≡ playIn r
+      in-object o i = sym (ap told i) ∙ in-content told told-is
 
 -- ---- the next record behind a map or a play
 other-rank : (m : ℕ) → eqb m PL ≡ false → not (inOrder 4 (rankOf m)) ≡ true
@@ -184,3 +249,43 @@ module _ {s : List ℕ} {p : ℕ} {m : Map} (k : MapIs s p m) where
 
       pub end-is : f .at ≡ length s
       end-is = let i = chain-inside s f (w .chain) in omega (arith, i, h)
+
+-- ---- a loop over the plays keeps the file read so far
+pub record ReadTo (s : List ℕ) (p : ℕ) (m : Map) (at : ℕ) : Type 0 where
+  pub map : MapIs s p m
+  pub file : File
+  pub reached : Reached map file
+  pub here : file .at ≡ at
+
+pub map-out : {s : List ℕ} {p : ℕ} {m : Map} → MapReadOf s p (map·read.Map m) → MapIs s p m
+map-out (is k) = k
+
+pub read-start : {s : List ℕ} {p : ℕ} {m : Map} (k : MapIs s p m) → ReadTo s p m (m .end)
+read-start k = record { map = k; file = k .file; reached = reached-start k; here = sym (k .end) }
+
+module _ {s : List ℕ} {p : ℕ} {m : Map} {at : ℕ} (k : ReadTo s p m at) where
+  there : drop at s ≡ drop (k .file .at) s
+  there = ap (λ (n : ℕ). drop n s) (sym (k .here))
+
+  module _ (h : at < length s) where
+    before : k .file .at < length s
+    before = let e = k .here in omega (arith, e, h)
+
+    module _ (q : Play) (e : read.Is q ≡ playIn (drop at s)) where
+      pub read-more : ReadTo s p m (at + 44)
+      unfolding with-record
+      read-more = record {
+        map = k .map;
+        file = file-with (k .map) (k .reached) before q;
+        reached = reached-next (k .map) (k .reached) before q (e ∙ ap playIn there);
+        here = let i = k .here in omega (arith, i);
+      }
+
+      pub read-inside : at + 44 ≤ length s
+      read-inside = let i = chain-inside s (read-more .file) (read-more .reached .chain) in let z = read-more .here in omega (arith, i, z)
+
+    pub read-stop : (n : ℕ) → read.Refused n ≡ playIn (drop at s) → fileOf s ≡ refusedAt n at (k .file)
+    read-stop n e = reached-stop (k .map) (k .reached) before n (e ∙ ap playIn there) ∙ ap (λ (i : ℕ). refusedAt n i (k .file)) (k .here)
+
+  pub read-end : length s ≤ at → length s ≤ k .file .at
+  read-end h = let e = k .here in omega (arith, e, h)

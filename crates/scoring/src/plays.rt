@@ -1,11 +1,11 @@
 // The plays of a map file, each checked on the map that stands before it.
-use marks::mark_before;
-use marks::marks_of;
-use marks::score_from;
 use map_reader::attributes::attributes_of;
 use map_reader::map::Map;
 use map_reader::map::MapRead;
 use map_reader::map::read_passed;
+use marks::mark_before;
+use marks::marks_of;
+use marks::score_from;
 use numbers::naturals::least;
 use play_reader::PlayRead;
 use play_reader::play_at;

@@ -1,86 +1,110 @@
+-- The mark is a play's or the record is refused; then the record's own fields are read.
+use mathlib.Core.Path.{_≡_, sym, ap, _∙_}
+use mathlib.Core.List.{List}
+use Prim.Native.Nat.{ℕ, _-_}
+use native.Mathlib.Omega.{arith}
+use denote.Ref.{now}
+use lib.ListN.{length, take, drop}
+use Rattle.rules.proofs.Laws.{so}
+use Rattle.map_file.proofs.Steps.{rest-is}
+use Rattle.play_reader.specs.Plays.{playIn}
+use Rattle.play_reader.proofs.Playing.{in-none, in-cut, in-other, in-refused, in-play, in-header, in-break, in-object}
 use borrow.Author.Needs.{needs}
 use Rattle.play_reader.proofs.play_at.Statement.{statement}
 use Rattle.play_reader.proofs.play_at.Tie as tie
-use Rattle.play_reader.proofs.play_at.Reads as reads
-use Rattle.play_reader.proofs.play_at.Lts as lts
-use Rattle.numbers.proofs.words.word_at.Reads as word-at-reads
-use Rattle.records.proofs.play_record.read_play.Reads as read-play-reads
 
--- src/lib.rt:51:9
 returns : tie.Need-returns
-returns c = ?
+returns c = let start = c .before .before in in-none (now (start .args .s)) (start .args .at) (c .if1 .taken)
 
--- src/lib.rt:53:13
 sub-r : tie.Need-sub-r
 sub-r c = search needs
 
--- src/lib.rt:53:13
 part-r-start : tie.Need-part-r-start
 part-r-start c = search needs
 
--- src/lib.rt:53:13
 part-r-end : tie.Need-part-r-end
 part-r-end c = search needs
 
--- src/lib.rt:55:9
 returns-2 : tie.Need-returns-2
-returns-2 c = ?
+returns-2 c =
+    let start = c .before .before .before .before in
+    let s = now (start .args .s) in
+    in-cut (take (length s - start .args .at) (drop (start .args .at) s)) (c .if2 .taken) ∙ ap playIn (rest-is s (start .args .at))
 
--- src/lib.rt:57:8
 word-at-requires : tie.Need-word-at-requires
 word-at-requires c κs = search needs
 
--- src/lib.rt:58:9
 returns-3 : tie.Need-returns-3
-returns-3 c = ?
+returns-3 c =
+    let start = c .before .before .before .before .before .before in
+    let s = now (start .args .s) in
+    in-other (take (length s - start .args .at) (drop (start .args .at) s)) (c .before .before .if2 .left) _ (c .before .word-at .ensures .0) (c .if3 .taken) ∙ ap playIn (rest-is s (start .args .at))
 
--- src/lib.rt:60:11
 read-play-requires : tie.Need-read-play-requires
 read-play-requires c κs = search needs
 
--- src/lib.rt:61:23
 enum-known-number : tie.Need-enum-known-number
 enum-known-number c = search needs
 
--- src/lib.rt:62:20
 enum-known-item : tie.Need-enum-known-item
 enum-known-item c = search needs
 
--- src/lib.rt:63:26
 enum-known-item-2 : tie.Need-enum-known-item-2
 enum-known-item-2 c = search needs
 
--- src/lib.rt:64:34
 enum-told : tie.Need-enum-told
 enum-told c = search needs
 
--- src/lib.rt:65:33
 enum-told-2 : tie.Need-enum-told-2
 enum-told-2 c = search needs
 
--- src/lib.rt:66:34
 enum-told-3 : tie.Need-enum-told-3
 enum-told-3 c = search needs
 
--- src/lib.rt:47:1
 returns-4 : tie.Need-returns-4
-returns-4 c = ?
+returns-4 c =
+    let read = c .before .before .before in
+    let word = read .before .before in
+    let start = word .before .before .before .before .before in
+    let s = now (start .args .s) in
+    let r = take (length s - start .args .at) (drop (start .args .at) s) in
+    in-refused r (word .before .if2 .left) _ (word .word-at .ensures .0) (read .before .if3 .left) _ (so (c .before .number .given .1) (read .read-play .ensures)) ∙ ap playIn (rest-is s (start .args .at))
 
--- src/lib.rt:47:1
 returns-5 : tie.Need-returns-5
-returns-5 c = ?
+returns-5 c =
+    let read = c .before .before .before .before .before .before in
+    let word = read .before .before in
+    let start = word .before .before .before .before .before in
+    let s = now (start .args .s) in
+    let r = take (length s - start .args .at) (drop (start .args .at) s) in
+    in-play r (word .before .if2 .left) _ (word .word-at .ensures .0) (read .before .if3 .left) _ _ (so (c .before .before .before .before .item .given .1) (read .read-play .ensures)) _ (c .before .item2 .given .1) ∙ ap playIn (rest-is s (start .args .at))
 
--- src/lib.rt:47:1
 returns-6 : tie.Need-returns-6
-returns-6 c = ?
+returns-6 c =
+    let read = c .before .before .before .before .before in
+    let word = read .before .before in
+    let start = word .before .before .before .before .before in
+    let s = now (start .args .s) in
+    let r = take (length s - start .args .at) (drop (start .args .at) s) in
+    in-header r (word .before .if2 .left) _ (word .word-at .ensures .0) (read .before .if3 .left) _ _ (so (c .before .before .before .item .given .1) (read .read-play .ensures)) _ (c .enum-told .given .1) ∙ ap playIn (rest-is s (start .args .at))
 
--- src/lib.rt:47:1
 returns-7 : tie.Need-returns-7
-returns-7 c = ?
+returns-7 c =
+    let read = c .before .before .before .before .before in
+    let word = read .before .before in
+    let start = word .before .before .before .before .before in
+    let s = now (start .args .s) in
+    let r = take (length s - start .args .at) (drop (start .args .at) s) in
+    in-break r (word .before .if2 .left) _ (word .word-at .ensures .0) (read .before .if3 .left) _ _ (so (c .before .before .before .item .given .1) (read .read-play .ensures)) _ (c .enum-told2 .given .1) ∙ ap playIn (rest-is s (start .args .at))
 
--- src/lib.rt:47:1
 returns-8 : tie.Need-returns-8
-returns-8 c = ?
+returns-8 c =
+    let read = c .before .before .before .before .before in
+    let word = read .before .before in
+    let start = word .before .before .before .before .before in
+    let s = now (start .args .s) in
+    let r = take (length s - start .args .at) (drop (start .args .at) s) in
+    in-object r (word .before .if2 .left) _ (word .word-at .ensures .0) (read .before .if3 .left) _ _ (so (c .before .before .before .item .given .1) (read .read-play .ensures)) _ (c .enum-told3 .given .1) ∙ ap playIn (rest-is s (start .args .at))
 
 pub play-at-spec : {M : Type 1} → statement M
 play-at-spec =

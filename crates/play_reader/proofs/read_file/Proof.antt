@@ -1,67 +1,81 @@
+-- The map, then one record of a play after another, each of which the definition finds there.
+use mathlib.Core.Path.{_≡_, sym, ap, _∙_, subst}
+use mathlib.Core.List.{List}
+use Prim.Native.Nat.{ℕ, _-_, _≤_}
+use native.Mathlib.Omega.{arith}
+use denote.Ref.{now}
+use lib.ListN.{length}
+use Rattle.rules.proofs.Laws.{so}
+use Rattle.map_reader.specs.Map.{MapReadOf, refuses as map-refuses}
+use Rattle.map_reader.specs.declared.map.MapRead.{MapRead}
+use Rattle.map_reader.specs.declared.map.MapRead.the-variants as map·read
+use Rattle.play_reader.specs.Plays.{MapFileOf, all, refuses}
+use Rattle.play_reader.specs.declared.MapFile.the-variants as map·file
+use Rattle.play_reader.proofs.Playing.{ReadTo, map-out, read-start, read-more, read-inside, read-stop, read-end}
+use borrow.Author.Needs.{needs}
 use Rattle.play_reader.proofs.read_file.Statement.{statement}
 use Rattle.play_reader.proofs.read_file.Tie as tie
-use Rattle.play_reader.proofs.read_file.Reads as reads
-use Rattle.play_reader.proofs.read_file.Lts as lts
-use Rattle.map_reader.proofs.map.read_passed.Reads as read-passed-reads
-use Rattle.play_reader.proofs.play_at.Reads as play-at-reads
 
 abbrev Inv-loop : tie.InvT-loop
-Inv-loop s passed map at₀ at = ?
+Inv-loop s passed map at₀ at = ReadTo s passed map at
 
 abbrev μ-loop : tie.MeasureT-loop
-μ-loop s passed map at₀ at = ?
+μ-loop s passed map at₀ at = length s - at
 
--- src/lib.rt:75:11
 read-passed-requires : tie.Need-read-passed-requires Inv-loop μ-loop
-read-passed-requires c κs = ?
+read-passed-requires c κs = search needs
 
--- src/lib.rt:76:28
 enum-known-number : tie.Need-enum-known-number Inv-loop μ-loop
-enum-known-number c = ?
+enum-known-number c = search needs
 
--- src/lib.rt:77:22
 enum-known-map : tie.Need-enum-known-map Inv-loop μ-loop
-enum-known-map c = ?
+enum-known-map c = search needs
 
--- src/lib.rt:79:13
 loop-holds : tie.Need-loop-holds Inv-loop μ-loop
-loop-holds c = ?
+loop-holds c =
+    let read = c .before .before .before in
+    let start = read .before .before in
+    read-start (map-out (subst (MapReadOf (now (start .args .s)) (start .args .passed)) (c .before .map .given .1) (read .read-passed .ensures)))
 
--- src/lib.rt:80:23
 play-at-requires : tie.Need-play-at-requires Inv-loop μ-loop
-play-at-requires c κs = ?
+play-at-requires c κs = search needs
 
--- src/lib.rt:81:39
 enum-known-number-2 : tie.Need-enum-known-number-2 Inv-loop μ-loop
-enum-known-number-2 c = ?
+enum-known-number-2 c = search needs
 
--- src/lib.rt:82:25
 returns : tie.Need-returns Inv-loop μ-loop
-returns c = ?
+returns c =
+    let played = c .before .before .before in
+    refuses (read-stop (played .before .before .loop .inv) (played .before .loop-test .taken) _ (so (c .before .number2 .given .1) (played .play-at .ensures)))
 
--- src/lib.rt:85:25
 enum-told : tie.Need-enum-told Inv-loop μ-loop
-enum-told c = ?
+enum-told c = search needs
 
--- src/lib.rt:85:25
 add-at : tie.Need-add-at Inv-loop μ-loop
-add-at c = ?
+add-at c =
+    let played = c .before .before in
+    let i = read-inside (played .before .before .loop .inv) (played .before .loop-test .taken) _ (so (c .enum-told .given .1) (played .play-at .ensures)) in
+    search needs
 
--- src/lib.rt:79:13
 loop-less : tie.Need-loop-less Inv-loop μ-loop
-loop-less c = ?
+loop-less c = let h = c .before .before .before .loop-test .taken in omega (arith, h)
 
--- src/lib.rt:79:13
 loop-again : tie.Need-loop-again Inv-loop μ-loop
-loop-again c = ?
+loop-again c =
+    let played = c .before .before in
+    read-more (played .before .before .loop .inv) (played .before .loop-test .taken) _ (so (c .enum-told .given .1) (played .play-at .ensures))
 
--- src/lib.rt:72:1
 returns-2 : tie.Need-returns-2 Inv-loop μ-loop
-returns-2 c = ?
+returns-2 c =
+    let read = c .before .before .before in
+    let start = read .before .before in
+    out (subst (MapReadOf (now (start .args .s)) (start .args .passed)) (c .before .number .given .1) (read .read-passed .ensures))
+  where
+    out : {s : List ℕ} {p n at : ℕ} → MapReadOf s p (map·read.Refused n at) → MapFileOf s p (map·file.Refused n at)
+    out (map-refuses e h) = refuses e
 
--- src/lib.rt:72:1
 returns-3 : tie.Need-returns-3 Inv-loop μ-loop
-returns-3 c = ?
+returns-3 c = let k = c .before .loop .inv in all (k .map) (k .file) (k .reached) (read-end k (c .loop-test .left))
 
 pub read-file-spec : {M : Type 1} → statement M
 read-file-spec =

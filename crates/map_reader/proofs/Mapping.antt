@@ -40,7 +40,7 @@ use Rattle.map_reader.specs.declared.map.Stop.the-variants as stop
 use Rattle.map_reader.proofs.Running.{countOf, next-stops}
 use Rattle.map_reader.proofs.Records.{found-play}
 use Rattle.map_reader.proofs.Files.{chain-limits, state-count, state-bonus, state-none, Keeps, NoBreak, keeps-stops, Ends, full, stopped, Follows, RanFile, to, over, keeps-ran, objectsRan}
-use Rattle.map_reader.proofs.Runs.{reads-on, ran-states}
+use Rattle.map_reader.proofs.Runs.{reads-on, ran-states, ran-nexts}
 use Rattle.map_reader.proofs.Breaks.{BreaksAt, BreaksEnd, breaks-place, head-reads, head-refuses}
 
 -- ---- the place in the order of a map's last record
@@ -216,6 +216,7 @@ module _ {s : List ℕ} {t : Settings} {count : ℕ} (k : BreaksEnd s t count) (
       first = first-is;
       passed = passed-is;
       states = states;
+      nexts = λ n h. ran-nexts s f from keeps-start (k .at .objects) all g e w n h few;
     }
 
     map-to : (x : Stop) → StopAt s g x → MapReadOf s p (mapStopped s t count passed all x)

@@ -3,14 +3,14 @@ use mathlib.Core.Path.{_≡_, refl, sym, ap, _∙_, subst}
 use mathlib.Core.List.{List, [], _∷_, _++_, append-nil, append-assoc}
 use Prim.Native.Nat.{ℕ, zero, suc, _+_, _-_, _≤_, _<_}
 use native.Mathlib.Omega.{arith}
-use lib.ListN.{length, take}
+use lib.ListN.{length, take, length-append}
 use lib.Seq.{take-all, take-append-le}
 use Rattle.rules.specs.Limits.{maxObjects}
 use Rattle.rules.proofs.Laws.{never}
 use Rattle.records.specs.Objects.{Object}
 use Rattle.map_file.specs.File.{File}
 use Rattle.map_reader.specs.Objects.{nextOf, ranBy, ranOf}
-use Rattle.map_reader.specs.Map.{StateOf, RanTo, to as ran-to}
+use Rattle.map_reader.specs.Map.{StateOf, RanTo, to as ran-to, NextIs}
 use Rattle.map_reader.specs.declared.objects.Objects.{Objects}
 use Rattle.map_reader.specs.declared.objects.Stepped.{Stepped}
 use Rattle.map_reader.specs.declared.objects.Stepped.the-variants as step
@@ -63,6 +63,18 @@ objects-append (suc a) b s x =
         taken-over (suc (a + b)) s x (sym e)
         ∙ sym (ap (λ (l : List Object). l ++ objectsThen (ranOf (suc a) s x) (λ z. objectsRan b s z)) (taken-over (suc a) s x (sym e))
         ∙ sym (ap (λ (r : Ran). objectsThen r (λ z. objectsRan b s z)) (ran-over (suc a) s x (omega arith) (sym e))))
+
+ran-one : (s : List ℕ) (x y : Objects) → step.Next y ≡ nextOf s x → ranOf 1 s x ≡ ran.To y
+unfolding ranOf
+ran-one s x y e = ran-next 0 s x y e
+
+take-first : (n : ℕ) (xs ys : List Object) → length xs ≡ n → take n (xs ++ ys) ≡ xs
+take-first n xs ys e = take-append-le n xs ys (omega (arith, e)) ∙ take-all n xs (omega (arith, e))
+
+take-more : (n : ℕ) (xs : List Object) (o : Object) (ys : List Object) → length xs ≡ n → take (n + 1) (xs ++ (o ∷ ys)) ≡ xs ++ (o ∷ [])
+take-more n xs o ys e =
+    let l = length-append xs (o ∷ []) in
+    ap (take (n + 1)) (sym (append-assoc xs (o ∷ []) ys)) ∙ take-first (n + 1) (xs ++ (o ∷ [])) ys (omega (arith, l, e))
 
 -- ---- the states of a map that was read whole
 module _ (s : List ℕ) (f : File) (x : Objects) (k : Keeps s f x) (none-yet : f .map .objects ≡ []) where
@@ -119,3 +131,57 @@ module _ (s : List ℕ) (f : File) (x : Objects) (k : Keeps s f x) (none-yet : f
                 let z = fresh-count in
                 let size = state-count (ki .state) in
                 ap (take n) (parts ∙ ap (λ (l : List Object). i .map .objects ++ l) (taken-stop (maxObjects - n) s y c) ∙ append-nil (i .map .objects)) ∙ take-all n (i .map .objects) (omega (arith, size, p, z))
+
+    -- the object behind n others
+    module _ (n : ℕ) (h : n < length (g .map .objects)) (few : length (g .map .objects) ≤ maxObjects) where
+      room : n + 1 ≤ maxObjects
+      room = omega (arith, h, few)
+
+      pub ran-nexts : NextIs s x (g .map .objects) n
+      ran-nexts = go (ranOf n s x) refl (keeps-ran n s f x k (let z = fresh-count in omega (arith, h, few, z)))
+        where
+          go : (r : Ran) → ranOf n s x ≡ r → RanFile s f x n r → NextIs s x (g .map .objects) n
+          go (ran.OverBonus at) q (over i p l) = absurd (never-over n at (omega (arith, room)) (sym q))
+          go (ran.To y) q (to i ki v ends) = by-step (nextOf s y) refl (answered s y) (count-is ends)
+            where
+              is : i .map .objects ≡ objectsRan n s x
+              is = taken i v
+
+              size : length (i .map .objects) ≡ countOf y
+              size = sym (state-count (ki .state))
+
+              parts : g .map .objects ≡ i .map .objects ++ objectsRan (maxObjects - n) s y
+              parts = whole-is n (omega (arith, room)) ∙ ap (λ (r : Ran). objectsRan n s x ++ objectsThen r (λ z. objectsRan (maxObjects - n) s z)) q ∙ ap (λ (l : List Object). l ++ objectsRan (maxObjects - n) s y) (sym is)
+
+              -- a run that stops there has no more objects
+              no-more : objectsRan (maxObjects - n) s y ≡ [] → countOf y ≤ n → ⊥
+              no-more e c =
+                  let l = ap length (parts ∙ ap (λ (l : List Object). i .map .objects ++ l) e ∙ append-nil (i .map .objects)) in
+                  let m = size in
+                  omega (arith, l, m, c, h)
+
+              count-is : Ends s (countOf x + n) y → countOf y ≡ n
+              count-is (full p) = let z = fresh-count in omega (arith, p, z)
+              count-is (stopped p c) = let z = fresh-count in absurd (no-more (taken-stop (maxObjects - n) s y c) (omega (arith, p, z)))
+
+              one-more : (e : Ran) → ranOf 1 s y ≡ e → ranOf (n + 1) s x ≡ e
+              one-more e w = ran-append n 1 s x ∙ ap (λ (r : Ran). ranThen r (λ z. ranOf 1 s z)) q ∙ w
+
+              by-step : (a : Stepped) → nextOf s y ≡ a → Answered s y a → countOf y ≡ n → NextIs s x (g .map .objects) n
+              by-step (step.Next z) e (took t) c =
+                  let m : maxObjects - n ≡ suc (maxObjects - (n + 1)) = omega (arith, room) in
+                  let rest = objectsRan (maxObjects - (n + 1)) s z in
+                  let cut : g .map .objects ≡ i .map .objects ++ (t .o ∷ rest) = parts ∙ ap (λ (l : List Object). i .map .objects ++ l) (ap (λ (j : ℕ). objectsRan j s y) m ∙ taken-next (maxObjects - (n + 1)) s y z (sym e) t) in
+                  let l : length (i .map .objects) ≡ n = size ∙ c in
+                  record {
+                    x = y;
+                    here = sym q;
+                    inside = t .long;
+                    o = t .o;
+                    size = t .size;
+                    found = t .found;
+                    next = ap ran.To (sym (t .same)) ∙ sym (one-more (ran.To z) (ran-one s y z (sym e)));
+                    more = ap (take (n + 1)) cut ∙ take-more n (i .map .objects) (t .o) rest l ∙ ap (λ (a : List Object). a ++ (t .o ∷ [])) (sym (ap (take n) cut ∙ take-first n (i .map .objects) (t .o ∷ rest) l));
+                  }
+              by-step step.Stop e a c = absurd (no-more (taken-stop (maxObjects - n) s y (sym e)) (omega (arith, c)))
+              by-step step.OverBonus e a c = absurd (never-over (n + 1) (y .at) room (sym (one-more (ran.OverBonus (y .at)) (sym (ran-over 1 s y (omega arith) (sym e))))))

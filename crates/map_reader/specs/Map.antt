@@ -2,16 +2,16 @@
 use Prim.Native.Nat.{ℕ, zero, suc, _+_, _*_, _-_, _≤_, _<_, min}
 use mathlib.Core.Path.{_≡_}
 use mathlib.Core.Bool.{Bool, true, false, _&&_}
-use mathlib.Core.List.{List, []}
+use mathlib.Core.List.{List, [], _∷_, _++_}
 use lib.Dec.{eqb, ltb, leb}
 use lib.Ieee.{Float, binary64, ofBits}
 use lib.ListN.{length, take, drop}
 use Rattle.numbers.specs.Floats.{whole}
 use Rattle.numbers.specs.Words.{wordAt}
-use Rattle.rules.specs.Limits.{maxObjects, maxBreaks, headerSize, breakSize}
+use Rattle.rules.specs.Limits.{maxObjects, maxBreaks, headerSize, breakSize, circleSize}
 use Rattle.rules.specs.Refusals.{Checked, good, refused, pick, MARK, BONUS}
 use Rattle.records.specs.Objects.{Object}
-use Rattle.records.specs.Records.{Content, header, break, object, play, FoundRecord, breakOf}
+use Rattle.records.specs.Records.{Content, header, break, object, play, FoundRecord, breakOf, objectOf}
 use Rattle.records.specs.declared.beatmap.Settings.{Settings}
 use Rattle.map_file.specs.Order.{BR, PL, noRank, headerRank, breakRank, objectRank, recordOf}
 use Rattle.map_file.specs.File.{File, refusedAt, fileOf}
@@ -21,7 +21,7 @@ use Rattle.map_file.proofs.Reading.{Chain}
 use Rattle.ruleset.specs.Drain.{startOf}
 use Rattle.simulator.specs.Walk.{fresh, after}
 use Rattle.simulator.specs.Nested.{noObject, countedAll}
-use Rattle.map_reader.specs.Objects.{objectsAt, bonusOf, ranOf}
+use Rattle.map_reader.specs.Objects.{objectsAt, stepped, bonusOf, ranOf}
 use Rattle.map_reader.specs.declared.objects.Objects.{Objects}
 use Rattle.map_reader.specs.declared.objects.Ran.{Ran}
 use Rattle.map_reader.specs.declared.objects.Ran.the-variants as ran
@@ -138,7 +138,18 @@ pub data Behind (s : List ℕ) (at : ℕ) : Type 0 where
   nothing : length s ≤ at → Behind s at
   plays : at < length s → wordAt (drop at s) 0 2 ≡ PL → Behind s at
 
--- m is the map of the file, with the state behind its first p objects. `states` is for a caller that reads on from a state that it kept.
+-- the object behind n others: where it stands and what is read there
+pub record NextIs (s : List ℕ) (from : Objects) (os : List Object) (n : ℕ) : Type 0 where
+  pub x : Objects
+  pub here : ran.To x ≡ ranOf n s from
+  pub inside : x .at + circleSize ≤ length s
+  pub o : Object
+  pub size : ℕ
+  pub found : objectOf (drop (x .at) s) (wordAt (drop (x .at) s) 0 2) ≡ good (object o, size)
+  pub next : ran.To (stepped x o size) ≡ ranOf (n + 1) s from
+  pub more : take (n + 1) os ≡ take n os ++ (o ∷ [])
+
+-- m is the map of the file, with the state behind its first p objects. `states` is for a caller that reads on from a state that it kept, `nexts` for one that reads the objects again.
 pub record MapIs (s : List ℕ) (p : ℕ) (m : Map) : Type 0 where
   pub file : File
   pub chain : Chain s file
@@ -152,6 +163,7 @@ pub record MapIs (s : List ℕ) (p : ℕ) (m : Map) : Type 0 where
   pub first : m .«first_start» ≡ startOf (file .map .objects) 0
   pub passed : StateOf (take p (file .map .objects)) (m .passed)
   pub states : (n : ℕ) → n ≤ maxObjects → RanTo (take n (file .map .objects)) (ranOf n s (objectsAt (objectsFrom (m .breaks))))
+  pub nexts : (n : ℕ) → n < length (file .map .objects) → NextIs s (objectsAt (objectsFrom (m .breaks))) (file .map .objects) n
 
 -- the map of a file, or the refusal of the file, with no play before it
 pub data MapReadOf (s : List ℕ) (p : ℕ) : MapRead → Type 0 where

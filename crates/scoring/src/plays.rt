@@ -15,6 +15,9 @@ use play_score::score_on;
 use play_state::Play;
 use simulator::attributes::ScoreAttributes;
 ghost use mathlib.Core.Path.{_≡_};
+ghost use Rattle.map_file.specs.File.{fileOf};
+ghost use Rattle.scoring.specs.Scores.{scoresOf};
+ghost use Rattle.scoring.specs.View.{wantedAfter, passesAsMany, Playing, Attributed, checkedOf, PlaysOf};
 
 // The score of the wanted play, or how many plays stand between it and what was read.
 pub enum Wanted {
@@ -35,7 +38,9 @@ pub enum Checked {
 
 impl Wanted {
     // Behind one more play.
-    fn after(self, score: PlayScore) -> Self {
+    fn after(self, score: PlayScore) -> Self
+        ensures { λ r. ⌜ r ≡ wantedAfter self score ⌝ }
+    {
         match self {
             Wanted::Is(found) => Wanted::Is(found),
             Wanted::Ahead(ahead) => {
@@ -48,13 +53,18 @@ impl Wanted {
     }
 }
 
-// A play passed as many of the objects as another number of passed objects does.
-fn passes_as_many(play: Play, passed: u64, objects: u64) -> bool {
+// Of so many objects a play passed as many as a count of passed objects does.
+fn passes_as_many(play: Play, passed: u64, objects: u64) -> bool
+    ensures { λ r. ⌜ r ≡ passesAsMany play passed objects ⌝ }
+{
     least(play.passed_objects as u64, objects) == least(passed, objects)
 }
 
 // The plays from an offset on, whatever they passed. The marks are made only here: most files have no such play.
-fn check_any(s: &[u8], map: Map, from: usize, former: Wanted) -> Checked {
+fn check_any(s: &[u8], map: Map, from: usize, former: Wanted) -> Checked
+    requires { ⌜ Playing (now s) map from former ⌝ }
+    ensures { λ r. ⌜ (k : Playing (now (s .entry)) map from former) → r ≡ checkedOf (k .i) (scoresOf (fileOf (now (s .entry)))) ⌝ }
+{
     let marks = marks_of(s, map);
     let mut at = from;
     let mut wanted = former;
@@ -81,7 +91,10 @@ fn check_any(s: &[u8], map: Map, from: usize, former: Wanted) -> Checked {
 }
 
 // The plays behind a map, from the attributes of its passed objects as long as they passed as many.
-fn check_behind(s: &[u8], map: Map, a: ScoreAttributes, passed: u64, index: u64) -> Checked {
+fn check_behind(s: &[u8], map: Map, a: ScoreAttributes, passed: u64, index: u64) -> Checked
+    requires { ⌜ Attributed (now s) passed map a ⌝ }
+    ensures { λ r. ⌜ r ≡ checkedOf index (scoresOf (fileOf (now (s .entry)))) ⌝ }
+{
     let mut at = map.end;
     let mut wanted = Wanted::Ahead(index);
     while at < s.len() {
@@ -109,7 +122,9 @@ fn check_behind(s: &[u8], map: Map, a: ScoreAttributes, passed: u64, index: u64)
 }
 
 // Reads a file to its end, each play checked in its place.
-pub fn check_plays(s: &[u8], passed: u64, index: u64) -> Plays {
+pub fn check_plays(s: &[u8], passed: u64, index: u64) -> Plays
+    ensures { λ r. ⌜ PlaysOf (now (s .entry)) passed index r ⌝ }
+{
     match read_passed(s, passed) {
         MapRead::Refused { number, offset } => Plays::Refused { number, offset },
         MapRead::Map(map) => {

@@ -68,10 +68,6 @@ pub fn score_from(s: &[u8], map: Map, mark: Objects, play: Play) -> Scored
     requires { ⌜ IsMap (now s) map × IsMark (now s) map (markBefore (map .objects) play) mark ⌝ }
     ensures { λ r. ⌜ r ≡ scoredFrom (now (s .entry)) map mark play ⌝ }
 {
-    let passed = state_at(
-        s,
-        mark,
-        least(play.passed_objects as u64, map.objects),
-    );
+    let passed = state_at(s, mark, least(play.passed_objects as u64, map.objects));
     score_on(play, attributes_of(s, Map { passed, ..map }))
 }

@@ -1,5 +1,5 @@
 -- The states kept at marks, and a play from the mark before it.
-use Prim.Native.Nat.{ℕ, _+_, _*_, _-_, _/_, _≤_, _<_, min}
+use Prim.Native.Nat.{ℕ, _+_, _*_, _-_, _/_, _≤_, min}
 use mathlib.Core.Path.{_≡_}
 use mathlib.Core.List.{List}
 use lib.ListN.{getD}
@@ -36,7 +36,7 @@ abbrev pub IsMark : List ℕ → Map → ℕ → Objects → Type 0
 IsMark s m i x = ran.To x ≡ ranOf (i * strideOf (m .objects)) s (objectsAt (objectsFrom (m .breaks)))
 
 pub record MarksOf (s : List ℕ) (m : Map) (marks : Marks) : Type 0 where
-  pub each : (i : ℕ) → i * strideOf (m .objects) ≤ m .objects → IsMark s m i (getD (marks .states) i (objectsAt 0))
+  pub each : (i : ℕ) (d : Objects) → i * strideOf (m .objects) ≤ m .objects → IsMark s m i (getD (marks .states) i d)
 
 -- "Attributes are those of the passed objects": how many a play passed of so many, and the mark before them
 abbrev pub passedOf : ℕ → Play → ℕ

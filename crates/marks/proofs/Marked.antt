@@ -207,6 +207,7 @@ module _ {s : List ℕ} {p : ℕ} {m : Map} (k : MapIs s p m) (q : Play) (mark :
     first = k .first;
     passed = behind-state is-map n (stateOr s mark n) (omega arith) (behind-later is-map _ n mark (mark-stands (m .objects) q) (omega arith) e);
     states = k .states;
+    nexts = k .nexts;
   }
 
   pub scored-is : scoredFrom s m mark q ≡ scoredOf (playScore q (scoreAttributesAt (k .file .map) (q .«passed_objects»)))

@@ -260,19 +260,19 @@ pub record ReadTo (s : List ℕ) (p : ℕ) (m : Map) (at : ℕ) : Type 0 where
 pub map-out : {s : List ℕ} {p : ℕ} {m : Map} → MapReadOf s p (map·read.Map m) → MapIs s p m
 map-out (is k) = k
 
-pub read-start : {s : List ℕ} {p : ℕ} {m : Map} (k : MapIs s p m) → ReadTo s p m (m .end)
+unfoldable pub read-start : {s : List ℕ} {p : ℕ} {m : Map} (k : MapIs s p m) → ReadTo s p m (m .end)
 read-start k = record { map = k; file = k .file; reached = reached-start k; here = sym (k .end) }
 
 module _ {s : List ℕ} {p : ℕ} {m : Map} {at : ℕ} (k : ReadTo s p m at) where
-  there : drop at s ≡ drop (k .file .at) s
+  pub there : drop at s ≡ drop (k .file .at) s
   there = ap (λ (n : ℕ). drop n s) (sym (k .here))
 
   module _ (h : at < length s) where
-    before : k .file .at < length s
+    pub before : k .file .at < length s
     before = let e = k .here in omega (arith, e, h)
 
     module _ (q : Play) (e : read.Is q ≡ playIn (drop at s)) where
-      pub read-more : ReadTo s p m (at + 44)
+      unfoldable pub read-more : ReadTo s p m (at + 44)
       unfolding with-record
       read-more = record {
         map = k .map;

@@ -25,7 +25,7 @@ use Rattle.play_score.specs.PlayRules.{playScore, scoredOf}
 use Rattle.play_score.specs.declared.PlayScore.{PlayScore}
 use Rattle.play_score.specs.declared.Scored.{Scored}
 use Rattle.play_score.specs.declared.Scored.the-variants as scored
-use Rattle.scoring.specs.Scores.{Outcome, refusal, values, Scores, playScoreOn, playScores, scoresOf}
+use Rattle.scoring.specs.Scores.{Outcome, refusal, values, then, Scores, playScoreOn, playScores, scoresOf}
 use Rattle.scoring.specs.View.{wantedOf, wantedAfter, passesAsMany, Playing, Attributed, checkedOf}
 use Rattle.scoring.specs.declared.plays.Wanted.{Wanted}
 use Rattle.scoring.specs.declared.plays.Wanted.the-variants as wanted
@@ -67,19 +67,18 @@ from-refuses (suc fuel) s f n at e =
     go on true (good r) q = on r q
 
 -- ---- before the first play
-pub playing-start : {s : List ℕ} {p : ℕ} {m : Map} (k : MapIs s p m) (i : ℕ) → Playing s m (m .end) (wanted.Ahead i)
+pub playing-start : {s : List ℕ} {p : ℕ} {m : Map} (k : MapIs s p m) (i : ℕ) → Playing s m (m .end) (wanted.Ahead i) i
 unfolding read-start wantedOf
 playing-start {s = s} {p = p} k i = record {
   p = p;
   to = read-start k;
   scores = [];
   same = ap (playScores (k .file .map)) (chain-plays s (k .file) (k .chain) (k .no-play)) ∙ scores-none (k .file .map);
-  i = i;
   wanted = refl;
 }
 
 -- ---- one more play
-module _ {s : List ℕ} {m : Map} {at : ℕ} {w : Wanted} (k : Playing s m at w) where
+module _ {s : List ℕ} {m : Map} {at : ℕ} {w : Wanted} {i : ℕ} (k : Playing s m at w i) where
   abbrev pub mapOf : MapData
   mapOf = k .to .map .file .map
 
@@ -109,17 +108,16 @@ module _ {s : List ℕ} {m : Map} {at : ℕ} {w : Wanted} (k : Playing s m at w)
               let all = scores-refused (f .map) (f .at) q (f .plays) (k .scores) (k .same) j p in
               subst (Refuses j (f .at)) (on .rest) (from-refuses (on .fuel) s (next .file) j (f .at) (record { late = refl; refuses = all }))
               ∙ ap (refusal j) (k .to .here)
-              ∙ ap (λ (i : ℕ). refusal i at) (sym same)
+              ∙ ap (λ (a : ℕ). refusal a at) (sym same)
 
-      pub playing-more : (y : PlayScore) → scored.Score y ≡ scoredOf (playScoreOn mapOf q) → Playing s m (at + 44) (wantedAfter w y)
+      pub playing-more : (y : PlayScore) → scored.Score y ≡ scoredOf (playScoreOn mapOf q) → Playing s m (at + 44) (wantedAfter w y) i
       unfolding with-record read-more
       playing-more y r = record {
         p = k .p;
         to = next;
         scores = k .scores ++ (y ∷ []);
         same = scores-more (k .to .file .map) (k .to .file .at) q (k .to .file .plays) (k .scores) (k .same) y (is-good (playScoreOn (k .to .file .map) q) (r ∙ ap (λ (x : MapData). scoredOf (playScoreOn x q)) (sym here-map)));
-        i = k .i;
-        wanted = ap (λ (x : Wanted). wantedAfter x y) (k .wanted) ∙ wanted-more (k .i) (k .scores) y;
+        wanted = ap (λ (x : Wanted). wantedAfter x y) (k .wanted) ∙ wanted-more i (k .scores) y;
       }
         where
           is-good : (x : Checked PlayScore) → scored.Score y ≡ scoredOf x → x ≡ good y
@@ -129,10 +127,13 @@ module _ {s : List ℕ} {m : Map} {at : ℕ} {w : Wanted} (k : Playing s m at w)
   -- ---- the end of the file
   module _ (h : length s ≤ at) where
     pub playing-scores : scoresOf (fileOf s) ≡ values (record { map = mapOf; plays = k .scores })
-    playing-scores = rw (reached-end (k .to .map) (k .to .reached) (read-end (k .to) h), k .same, here-map)
+    playing-scores =
+        ap scoresOf (reached-end (k .to .map) (k .to .reached) (read-end (k .to) h))
+        ∙ ap (λ (x : Outcome (List PlayScore)). then x (λ ss. values (record { map = k .to .file .map; plays = ss }))) (k .same)
+        ∙ ap (λ (x : MapData). values (record { map = x; plays = k .scores })) here-map
 
-    pub playing-end : checked.Good w ≡ checkedOf (k .i) (scoresOf (fileOf s))
-    playing-end = ap checked.Good (k .wanted) ∙ sym (ap (checkedOf (k .i)) playing-scores)
+    pub playing-end : checked.Good w ≡ checkedOf i (scoresOf (fileOf s))
+    playing-end = ap checked.Good (k .wanted) ∙ sym (ap (checkedOf i) playing-scores)
 
 -- ---- a play that passed as many objects as the attributes are of
 pub same-passed : (s : List ℕ) (p : ℕ) (m : Map) (a : ScoreAttributes) (k : Attributed s p m a) (q : Play) → passesAsMany q p (m .objects) ≡ true

@@ -36,14 +36,17 @@ wantedAfter (wanted.Ahead n) s = pick (eqb n 0) (wanted.Is s) (wanted.Ahead (n -
 abbrev pub passesAsMany : Play → ℕ → ℕ → Bool
 passesAsMany q p n = eqb (min (q .«passed_objects») n) (min p n)
 
--- some plays behind the map were read and are good; `wanted` is the one at the index i, if it was among them
-pub record Playing (s : List ℕ) (m : Map) (at : ℕ) (w : Wanted) : Type 0 where
+-- some plays behind the map were read and are good; w is the one at the index i, if it was among them
+pub record Playing (s : List ℕ) (m : Map) (at : ℕ) (w : Wanted) (i : ℕ) : Type 0 where
   pub p : ℕ
   pub to : ReadTo s p m at
   pub scores : List PlayScore
   pub same : playScores (to .file .map) (to .file .plays) ≡ values scores
-  pub i : ℕ
   pub wanted : w ≡ wantedOf i scores
+
+pub record AnyPlaying (s : List ℕ) (m : Map) (at : ℕ) (w : Wanted) : Type 0 where
+  pub i : ℕ
+  pub is : Playing s m at w i
 
 -- m is the map of the file, and a the attributes of its first p objects
 pub record Attributed (s : List ℕ) (p : ℕ) (m : Map) (a : ScoreAttributes) : Type 0 where
@@ -54,6 +57,10 @@ pub record Attributed (s : List ℕ) (p : ℕ) (m : Map) (a : ScoreAttributes) :
 abbrev pub checkedOf : ℕ → Outcome Scores → Checked
 checkedOf i (refusal n at) = checked.Refused n at
 checkedOf i (values x) = checked.Good (wantedOf i (x .plays))
+
+-- the rest of a file, whatever the index of the wanted play
+abbrev pub CheckedFrom : List ℕ → Map → ℕ → Wanted → Checked → Type 0
+CheckedFrom s m at w r = (i : ℕ) → Playing s m at w i → r ≡ checkedOf i (scoresOf (fileOf s))
 
 -- the map too, with the attributes of its first p objects
 pub data PlaysOf (s : List ℕ) (p i : ℕ) : Plays → Type 0 where

@@ -17,7 +17,7 @@ use simulator::attributes::ScoreAttributes;
 ghost use mathlib.Core.Path.{_≡_};
 ghost use Rattle.map_file.specs.File.{fileOf};
 ghost use Rattle.scoring.specs.Scores.{scoresOf};
-ghost use Rattle.scoring.specs.View.{wantedAfter, passesAsMany, Playing, Attributed, checkedOf, PlaysOf};
+ghost use Rattle.scoring.specs.View.{wantedAfter, passesAsMany, AnyPlaying, Attributed, checkedOf, CheckedFrom, PlaysOf};
 
 // The score of the wanted play, or how many plays stand between it and what was read.
 pub enum Wanted {
@@ -62,8 +62,8 @@ fn passes_as_many(play: Play, passed: u64, objects: u64) -> bool
 
 // The plays from an offset on, whatever they passed. The marks are made only here: most files have no such play.
 fn check_any(s: &[u8], map: Map, from: usize, former: Wanted) -> Checked
-    requires { ⌜ Playing (now s) map from former ⌝ }
-    ensures { λ r. ⌜ (k : Playing (now (s .entry)) map from former) → r ≡ checkedOf (k .i) (scoresOf (fileOf (now (s .entry)))) ⌝ }
+    requires { ⌜ AnyPlaying (now s) map from former ⌝ }
+    ensures { λ r. ⌜ CheckedFrom (now (s .entry)) map from former r ⌝ }
 {
     let marks = marks_of(s, map);
     let mut at = from;

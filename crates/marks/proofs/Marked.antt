@@ -182,8 +182,10 @@ module _ {s : List ℕ} {m : Map} {stride : ℕ} {state : Objects} {states : Lis
 -- ---- a play from its mark
 module _ {s : List ℕ} {m : Map} {marks : Marks} (k : MarksOf s m marks) where
   -- as the code reads it, whatever stands for a state that is not there
-  pub mark-there : (q : Play) (d : Objects) → IsMark s m (markBefore (m .objects) q) (getD (marks .states) (markBefore (m .objects) q) d)
-  mark-there q d = k .each (markBefore (m .objects) q) d (let h = mark-stands (m .objects) q in omega (arith, h))
+  pub mark-there : (q : Play) (i : ℕ) (d : Objects) → i ≡ markBefore (m .objects) q → IsMark s m (markBefore (m .objects) q) (getD (marks .states) i d)
+  mark-there q i d e =
+      let h = mark-stands (m .objects) q in
+      ap (λ (n : ℕ). ran.To (getD (marks .states) n d)) e ∙ k .each (markBefore (m .objects) q) d (omega (arith, h))
 
 module _ {s : List ℕ} {p : ℕ} {m : Map} (k : MapIs s p m) (q : Play) (mark : Objects) (e : IsMark s m (markBefore (m .objects) q) mark) where
   abbrev is-map : IsMap s m

@@ -36,7 +36,7 @@ use Rattle.marks.specs.declared.Marks.{Marks}
 
 -- ---- numbers of marks
 -- 128 strides are more than all objects
-pub few-marks : (objects i : ℕ) → i * strideOf objects ≤ objects → i < 128
+few-marks : (objects i : ℕ) → i * strideOf objects ≤ objects → i < 128
 few-marks objects i h = lt-of-mul-lt-mul-right (strideOf objects) {m = i} {n = 128} (omega (arith, h))
 
 pub mark-stands : (objects : ℕ) (q : Play) → markBefore objects q * strideOf objects ≤ passedOf objects q
@@ -86,17 +86,17 @@ module _ {s : List ℕ} {m : Map} (w : IsMap s m) where
       small-start s (objectsFrom (m .breaks)) (omega (arith, e, from, to))
 
   module _ (n : ℕ) (x : Objects) (h : n ≤ m .objects) (e : ran.To x ≡ ranOf n s first) where
-    pub behind-state : StateOf (take n os) x
+    behind-state : StateOf (take n os) x
     behind-state = state-out (subst (RanTo (take n os)) (sym e) (w .is .states n (let most = few-objects in omega (arith, h, most))))
 
-    pub behind-count : countOf x ≡ n
+    behind-count : countOf x ≡ n
     behind-count = state-count behind-state ∙ length-take n os ∙ (let z = w .is .objects in omega (arith, h, z))
 
     pub behind-small : Small s x
     behind-small = small-ran n s first x small-first (let most = few-objects in omega (arith, h, most)) e
 
   -- from one state to a later one
-  pub behind-later : (a n : ℕ) (x : Objects) → a ≤ n → n ≤ m .objects → ran.To x ≡ ranOf a s first → ran.To (stateOr s x n) ≡ ranOf n s first
+  behind-later : (a n : ℕ) (x : Objects) → a ≤ n → n ≤ m .objects → ran.To x ≡ ranOf a s first → ran.To (stateOr s x n) ≡ ranOf n s first
   behind-later a n x l h e =
       let count = behind-count a x (omega (arith, l, h)) e in
       let steps : n ≡ a + (n - countOf x) = omega (arith, count, l) in
@@ -107,9 +107,7 @@ module _ {s : List ℕ} {m : Map} (w : IsMap s m) where
 -- ---- the loop that sets the marks: i marks stand, and the last is a stride before `count`
 pub record Marking (s : List ℕ) (m : Map) (stride : ℕ) (state : Objects) (states : List Objects) (i count : ℕ) : Type 0 where
   pub stride-is : stride ≡ strideOf (m .objects)
-  pub some : 0 < i
   pub count-is : count ≡ i * stride
-  pub most : count ≤ m .objects + stride
   pub last : ran.To state ≡ ranOf (count - stride) s (objectsAt (objectsFrom (m .breaks)))
   pub places : length states ≡ 128
   pub each : (j : ℕ) (d : Objects) → j < i → IsMark s m j (getD states j d)
@@ -118,9 +116,7 @@ pub marking-start : (s : List ℕ) (m : Map) (stride : ℕ) (state : Objects) �
     → Marking s m stride state (replicate 128 state) 1 stride
 marking-start s m stride state e z = record {
   stride-is = e;
-  some = omega arith;
   count-is = omega arith;
-  most = omega arith;
   last = at-first (stride - stride) (omega arith);
   places = length-replicate 128 state;
   each = λ j d h. (let none : j ≡ 0 = omega (arith, h) in ap ran.To (getD-replicate 128 j state d (omega (arith, h))) ∙ at-first (j * strideOf (m .objects)) (ap (λ (n : ℕ). n * strideOf (m .objects)) none ∙ omega arith));
@@ -153,9 +149,7 @@ module _ {s : List ℕ} {m : Map} {stride : ℕ} {state : Objects} {states : Lis
     pub marking-next : (x : Objects) → x ≡ stateOr s state count → Marking s m stride x (set states i x) (i + 1) (count + stride)
     marking-next x e = record {
       stride-is = k .stride-is;
-      some = omega arith;
       count-is = (let c = k .count-is in omega (arith, c));
-      most = omega (arith, h);
       last = here ∙ ap (λ (n : ℕ). ranOf n s (objectsAt (objectsFrom (m .breaks)))) (let z : count ≡ count + stride - stride = omega arith in z);
       places = length-set states i x ∙ k .places;
       each = λ j d l. go j d l (ltb j i) refl;
@@ -182,8 +176,10 @@ module _ {s : List ℕ} {m : Map} {stride : ℕ} {state : Objects} {states : Lis
 -- ---- a play from its mark
 module _ {s : List ℕ} {m : Map} {marks : Marks} (k : MarksOf s m marks) where
   -- as the code reads it, whatever stands for a state that is not there
-  pub mark-there : (q : Play) (d : Objects) → IsMark s m (markBefore (m .objects) q) (getD (marks .states) (markBefore (m .objects) q) d)
-  mark-there q d = k .each (markBefore (m .objects) q) d (let h = mark-stands (m .objects) q in omega (arith, h))
+  pub mark-there : (q : Play) (i : ℕ) (d : Objects) → i ≡ markBefore (m .objects) q → IsMark s m (markBefore (m .objects) q) (getD (marks .states) i d)
+  mark-there q i d e =
+      let h = mark-stands (m .objects) q in
+      ap (λ (n : ℕ). ran.To (getD (marks .states) n d)) e ∙ k .each (markBefore (m .objects) q) d (omega (arith, h))
 
 module _ {s : List ℕ} {p : ℕ} {m : Map} (k : MapIs s p m) (q : Play) (mark : Objects) (e : IsMark s m (markBefore (m .objects) q) mark) where
   abbrev is-map : IsMap s m

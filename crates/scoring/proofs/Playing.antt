@@ -110,14 +110,14 @@ module _ {s : List ℕ} {m : Map} {at : ℕ} {w : Wanted} {i : ℕ} (k : Playing
               ∙ ap (refusal j) (k .to .here)
               ∙ ap (λ (a : ℕ). refusal a at) (sym same)
 
-      pub playing-more : (y : PlayScore) → scored.Score y ≡ scoredOf (playScoreOn mapOf q) → Playing s m (at + 44) (wantedAfter w y) i
+      pub playing-more : (y : PlayScore) → scored.Score y ≡ scoredOf (playScoreOn mapOf q) → (v : Wanted) → v ≡ wantedAfter w y → Playing s m (at + 44) v i
       unfolding with-record read-more
-      playing-more y r = record {
+      playing-more y r v c = record {
         p = k .p;
         to = next;
         scores = k .scores ++ (y ∷ []);
         same = scores-more (k .to .file .map) (k .to .file .at) q (k .to .file .plays) (k .scores) (k .same) y (is-good (playScoreOn (k .to .file .map) q) (r ∙ ap (λ (x : MapData). scoredOf (playScoreOn x q)) (sym here-map)));
-        wanted = ap (λ (x : Wanted). wantedAfter x y) (k .wanted) ∙ wanted-more i (k .scores) y;
+        wanted = c ∙ ap (λ (x : Wanted). wantedAfter x y) (k .wanted) ∙ wanted-more i (k .scores) y;
       }
         where
           is-good : (x : Checked PlayScore) → scored.Score y ≡ scoredOf x → x ≡ good y
@@ -144,3 +144,20 @@ same-passed s p m a k q e =
     let same : min p l ≡ min (q .«passed_objects») l =
     ap (λ (x : ℕ). min p x) (sym n) ∙ sym (eqb-true _ _ e) ∙ ap (λ (x : ℕ). min (q .«passed_objects») x) n in
     ap (λ (x : ScoreAttributes). scoredOf (playScore q x)) (k .attributes ∙ attributes-passed (k .map .file .map) p (q .«passed_objects») same)
+
+-- ---- the same, on the map that the attributes are of
+pub record PlayingOn (s : List ℕ) (m : Map) (at : ℕ) (w : Wanted) (i : ℕ) (d : MapData) : Type 0 where
+  pub is : Playing s m at w i
+  pub on : mapOf is ≡ d
+
+pub on-start : {s : List ℕ} {p : ℕ} {m : Map} (k : MapIs s p m) (i : ℕ) → PlayingOn s m (m .end) (wanted.Ahead i) i (k .file .map)
+unfolding playing-start read-start
+on-start k i = record { is = playing-start k i; on = refl }
+
+module _ {s : List ℕ} {m : Map} {at : ℕ} {w : Wanted} {i : ℕ} {d : MapData} (k : PlayingOn s m at w i d) (h : at < length s) (q : Play) (e : read.Is q ≡ playIn (drop at s)) where
+  pub on-refused : (n : ℕ) → scored.Refused n ≡ scoredOf (playScoreOn d q) → scoresOf (fileOf s) ≡ refusal n at
+  on-refused n r = playing-refused (k .is) h q e n (r ∙ ap (λ (x : MapData). scoredOf (playScoreOn x q)) (sym (k .on)))
+
+  pub on-more : (y : PlayScore) → scored.Score y ≡ scoredOf (playScoreOn d q) → (v : Wanted) → v ≡ wantedAfter w y → PlayingOn s m (at + 44) v i d
+  unfolding playing-more read-more
+  on-more y r v c = record { is = playing-more (k .is) h q e y (r ∙ ap (λ (x : MapData). scoredOf (playScoreOn x q)) (sym (k .on))) v c; on = k .on }

@@ -49,19 +49,31 @@ mark-before-requires : tie.Need-mark-before-requires Inv-loop μ-loop
 mark-before-requires c κs = search needs
 
 mul-score-from : tie.Need-mul-score-from Inv-loop μ-loop
-mul-score-from c = ?
+mul-score-from c = search needs
 
 element-copy-out-score-from : tie.Need-element-copy-out-score-from Inv-loop μ-loop
-element-copy-out-score-from c = ?
+element-copy-out-score-from c = search needs
 
 score-from-requires : tie.Need-score-from-requires Inv-loop μ-loop
-score-from-requires c κs = ?
+score-from-requires c κs =
+    let marked = c .before .before .before .before .before .before .before .before in
+    let k = marked .before .before .pre .is in
+    (record { p = k .p; is = k .to .map }, mark-there (marked .marks-of .ensures) (c .before .before .before .play .given .0 .0) _ _ (c .before .mark-before .ensures .0))
 
 enum-known-number-2 : tie.Need-enum-known-number-2 Inv-loop μ-loop
 enum-known-number-2 c = search needs
 
 returns-2 : tie.Need-returns-2 Inv-loop μ-loop
-returns-2 c = ?
+returns-2 c =
+    let scored = c .before .before .before in
+    let played = c .before .before .before .before .before .before .before .before .before in
+    let top = played .before .before in
+    let marked = top .before in
+    let q = c .before .before .before .before .before .before .before .play in
+    λ i k.
+    let now-at = top .loop .inv i k in
+    let r = so (c .before .number2 .given .1) (scored .score-from .ensures) ∙ scored-is (now-at .to .map) (q .given .0 .0) _ (mark-there (marked .marks-of .ensures) (q .given .0 .0) _ _ (scored .before .before .mark-before .ensures .0)) in
+    sym (ap (checkedOf i) (playing-refused now-at (played .before .loop-test .taken) _ (so (q .given .1) (played .play-at .ensures)) _ r))
 
 enum-known-score : tie.Need-enum-known-score Inv-loop μ-loop
 enum-known-score c = search needs
@@ -82,7 +94,16 @@ loop-less : tie.Need-loop-less Inv-loop μ-loop
 loop-less c = let h = c .before .before .before .before .before .before .before .before .before .before .before .loop-test .taken in omega (arith, h)
 
 loop-again : tie.Need-loop-again Inv-loop μ-loop
-loop-again c = ?
+loop-again c =
+    let scored = c .before .before .before .before in
+    let played = c .before .before .before .before .before .before .before .before .before .before in
+    let top = played .before .before in
+    let marked = top .before in
+    let q = c .before .before .before .before .before .before .before .before .play in
+    λ i k.
+    let now-at = top .loop .inv i k in
+    let r = so (c .before .before .score .given .1) (scored .score-from .ensures) ∙ scored-is (now-at .to .map) (q .given .0 .0) _ (mark-there (marked .marks-of .ensures) (q .given .0 .0) _ _ (scored .before .before .mark-before .ensures .0)) in
+    playing-more now-at (played .before .loop-test .taken) _ (so (q .given .1) (played .play-at .ensures)) _ r _ (c .after .ensures)
 
 returns-3 : tie.Need-returns-3 Inv-loop μ-loop
 returns-3 c = λ i k. playing-end (c .before .loop .inv i k) (c .loop-test .left)

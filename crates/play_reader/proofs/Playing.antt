@@ -2,7 +2,7 @@
 use mathlib.Core.Path.{_≡_, refl, sym, ap, _∙_, subst}
 use mathlib.Core.Bool.{Bool, true, false, not}
 use mathlib.Core.List.{List, [], _∷_, _++_}
-use Prim.Native.Nat.{ℕ, _+_, _-_, _≤_, _<_}
+use Prim.Native.Nat.{ℕ, zero, suc, _+_, _-_, _≤_, _<_}
 use native.Mathlib.Omega.{arith}
 use borrow.Author.Tests.{lt-ltb, le-ltb, le-leb, eq-eqb, ne-eqb, eqb-true, eqb-false, ltb-true, ltb-false}
 use lib.Dec.{eqb, ltb, leb}
@@ -22,10 +22,10 @@ use Rattle.records.specs.declared.record.Record.the-variants as record·case
 use Rattle.records.specs.declared.record.Read.the-variants as record·read
 use Rattle.play_state.specs.declared.Play.{Play}
 use Rattle.map_file.specs.Order.{MH, BR, PL, rankOf, inOrder, isFull, overBonus, contentBonus, bodyOf, recordOf}
-use Rattle.map_file.specs.File.{File, accepted, refusedAt, countsOf, with-record, ended, fileOf}
+use Rattle.map_file.specs.File.{File, accepted, refusedAt, countsOf, with-record, follow, ended, fileFrom, fileOf}
 use Rattle.map_file.specs.View.{view}
 use Rattle.map_file.specs.declared.file.Counts.{Counts}
-use Rattle.map_file.proofs.Reading.{Chain, longer, chain-on, chain-inside, on-stop, on-end, foundAt, with-at}
+use Rattle.map_file.proofs.Reading.{Chain, longer, chain-on, chain-inside, on-stop, on-end, foundAt, ended-is}
 use Rattle.map_reader.specs.Map.{MapIs, MapReadOf, is, Behind, nothing, plays}
 use Rattle.map_reader.specs.declared.map.MapRead.the-variants as map·read
 use Rattle.map_reader.specs.declared.map.Map.{Map}
@@ -249,6 +249,33 @@ module _ {s : List ℕ} {p : ℕ} {m : Map} (k : MapIs s p m) where
 
       pub end-is : f .at ≡ length s
       end-is = let i = chain-inside s f (w .chain) in omega (arith, i, h)
+
+-- ---- plays leave the map as it is
+module _ {s : List ℕ} {p : ℕ} {m : Map} (k : MapIs s p m) (g : File) where
+  with-play : (f : File) (w : Reached k f) (h : f .at < length s) (x : Content) (n : ℕ) → foundAt s f ≡ good (x, n) → PlayOnly x n → Reached k (with-record f (x, n))
+  unfolding with-record
+  with-play f w h (play q) n e only = record { chain = longer (w .chain) h e; map = w .map; place = later refl (ahead (w .place)) }
+    where
+      ahead : Place (k .file) f → k .file .at < f .at + 44
+      ahead (first z) = let a = ap (λ (i : File). i .at) z in omega (arith, a)
+      ahead (later z l) = omega (arith, l)
+
+  from-same : (fuel : ℕ) (f : File) → Reached k f → fileFrom fuel s f ≡ accepted g → g .map ≡ k .file .map
+  unfolding fileFrom
+  from-same zero f w e = never (cc)
+  from-same (suc fuel) f w e = go (λ i v q. from-same fuel i v q) (ltb (f .at) (length s)) refl (foundAt s f) refl e
+    where
+      go : ((i : File) → Reached k i → fileFrom fuel s i ≡ accepted g → g .map ≡ k .file .map) → (b : Bool) → ltb (f .at) (length s) ≡ b → (x : FoundRecord) → foundAt s f ≡ x
+          → pick b (follow f x (λ r. fileFrom fuel s (with-record f r))) (ended f) ≡ accepted g → g .map ≡ k .file .map
+      go more false l x q e = sym (ap (λ (i : File). i .map) (ended-is f g e)) ∙ w .map
+      go more true l (refused n) q e = never (cc)
+      go more true l (good r) q e =
+          let h = ltb-true (f .at) (length s) l in
+          let only-play = all-out (subst (All (λ i. PlayOnly (i .0) (i .1))) (sym (next-is k w h) ∙ q) (play-only (drop (f .at) s))) in
+          more (with-record f r) (with-play f w h (r .0) (r .1) q only-play) e
+
+  pub map-same : fileOf s ≡ accepted g → g .map ≡ k .file .map
+  map-same e = let on = chain-on s (k .file) (k .chain) in from-same (on .fuel) (k .file) (reached-start k) (on .rest ∙ e)
 
 -- ---- a loop over the plays keeps the file read so far
 pub record ReadTo (s : List ℕ) (p : ℕ) (m : Map) (at : ℕ) : Type 0 where

@@ -4,25 +4,30 @@ use mathlib.Core.List.{List, [], _∷_}
 use Prim.Native.Nat.{ℕ, zero, suc, min}
 use native.Mathlib.Omega.{arith}
 use lib.ListN.{length}
-use Rattle.map_file.specs.File.{File, Result, accepted, refusedAt, fileOf}
+use Rattle.map_file.specs.File.{File, Map as MapData, Result, accepted, refusedAt, fileOf}
 use Rattle.play_state.specs.declared.Play.{Play}
 use Rattle.encoding.specs.Limits.{MapWithin}
 use Rattle.encoding.proofs.Accepted.{accepted-within}
 use Rattle.simulator.specs.Attributes.{scoreAttributesAt}
 use Rattle.simulator.specs.declared.attributes.ScoreAttributes.{ScoreAttributes}
+use Rattle.map_reader.specs.Map.{MapIs, MapReadOf, refuses as map-refuses}
 use Rattle.map_reader.specs.declared.map.Map.{Map}
+use Rattle.map_reader.specs.declared.map.MapRead.the-variants as map·read
+use Rattle.play_reader.proofs.Playing.{map-same}
 use Rattle.map_reader.proofs.Passed.{attributes-passed}
 use Rattle.play_score.specs.PlayRules.{givenAnswer, givenScore}
 use Rattle.scoring.specs.Scores.{Outcome, refusal, values, then, Scores, playScores, scoresOf, mapScoreOf, givenPlayOf, playAt, listedPlayOf}
-use Rattle.scoring.specs.View.{wantedOf, PlaysOf, good, refuses}
+use Rattle.scoring.specs.View.{wantedOf, checkedOf, PlaysOf, good, refuses}
 use Rattle.play_score.specs.declared.PlayScore.{PlayScore}
 use Rattle.scoring.specs.declared.plays.Wanted.{Wanted}
 use Rattle.scoring.specs.declared.plays.Wanted.the-variants as wanted
+use Rattle.scoring.specs.declared.plays.Checked.the-variants as checked
 use Rattle.scoring.specs.declared.plays.Plays.the-variants as answer
 use Rattle.scoring.specs.declared.score.MapScore.the-variants as map·score
 use Rattle.play_score.specs.declared.GivenPlay.{GivenPlay}
 use Rattle.play_score.specs.declared.GivenPlay.the-variants as given
 use Rattle.scoring.specs.declared.score.ListedPlay.the-variants as listed
+use Rattle.scoring.proofs.Lists.{scores-none}
 use Rattle.rules.proofs.Laws.{never}
 
 -- ---- a file that gets no number
@@ -100,3 +105,27 @@ listed-scored s p i m a w (good k x e same attributes wanted) y h = wanted-is (x
 pub listed-none : (s : List ℕ) (p i : ℕ) (m : Map) (a : ScoreAttributes) (w : Wanted) → PlaysOf s p i (answer.Good m a w) → (n : ℕ) → w ≡ wanted.Ahead n
     → listed.NoPlay ≡ listedPlayOf i (scoresOf (fileOf s))
 listed-none s p i m a w (good k x e same attributes wanted) n h = wanted-not (x .plays) i n (sym h ∙ wanted) ∙ sym (ap (listedPlayOf i) e)
+
+-- ---- what the check of a file's plays answers
+pub start-refused : {s : List ℕ} {p i n at : ℕ} → MapReadOf s p (map·read.Refused n at) → PlaysOf s p i (answer.Refused n at)
+start-refused {n = n} {at = at} (map-refuses {f = f} e h) =
+    refuses (ap scoresOf e ∙ ap (λ (l : List (ℕ × Play)). then (playScores (f .map) l) (λ ss. refusal n at)) h ∙ ap (λ (x : Outcome (List PlayScore)). then x (λ ss. refusal n at)) (scores-none (f .map)))
+
+pub check-refused : {s : List ℕ} {p i n at : ℕ} → checked.Refused n at ≡ checkedOf i (scoresOf (fileOf s)) → PlaysOf s p i (answer.Refused n at)
+check-refused {s = s} {p = p} {i = i} {n = n} {at = at} e = refuses (go (scoresOf (fileOf s)) e)
+  where
+    go : (x : Outcome Scores) → checked.Refused n at ≡ checkedOf i x → x ≡ refusal n at
+    go (refusal k o) e = let a : k ≡ n = cc in let b : o ≡ at = cc in rw (a, b)
+    go (values x) e = never (cc)
+
+pub check-good : {s : List ℕ} {p i : ℕ} {m : Map} (k : MapIs s p m) (a : ScoreAttributes) (w : Wanted) → a ≡ scoreAttributesAt (k .file .map) p
+    → checked.Good w ≡ checkedOf i (scoresOf (fileOf s)) → PlaysOf s p i (answer.Good m a w)
+check-good {s = s} {p = p} {i = i} {m = m} k a w q e = go (scoresOf (fileOf s)) refl e
+  where
+    go : (x : Outcome Scores) → scoresOf (fileOf s) ≡ x → checked.Good w ≡ checkedOf i x → PlaysOf s p i (answer.Good m a w)
+    go (refusal n at) h e = never (cc)
+    go (values x) h e =
+        let v = no-number s x h in
+        let same : x .map ≡ k .file .map = v .map ∙ map-same k (v .file) (v .read) in
+        let is : w ≡ wantedOf i (x .plays) = cc in
+        good k x h same (q ∙ ap (λ (n : MapData). scoreAttributesAt n p) (sym same)) is

@@ -18,7 +18,7 @@ ghost use Rattle.records.specs.Records.{recordRead, objectOf};
 ghost use Rattle.map_file.specs.File.{fileOf};
 ghost use Rattle.scoring.specs.Scores.{scoresOf};
 ghost use Rattle.board_build.specs.Build.{built};
-ghost use Rattle.board_build.specs.Laying.{LaysRecord, recordLaid, LaysRead, readLaid, sizeOf, Lays, objectsLaid};
+ghost use Rattle.board_build.specs.Laying.{LaysRecord, recordLaid, LaysRead, readLaid, Lays, objectsLaid};
 
 // An object's own entry and its start at its place; other records have neither.
 fn lay_record(board: &mut [u64], starts: &mut [f64], cap: usize, place: usize, item: Record)
@@ -75,8 +75,11 @@ fn lay_object(
     0
 }
 
-// The own entries and the starts of an accepted file's objects.
-fn lay(file: &[u8], map: Map, board: &mut [u64], starts: &mut [f64], cap: usize) {
+// The own entries and the starts of a map's objects.
+fn lay(file: &[u8], map: Map, board: &mut [u64], starts: &mut [f64], cap: usize)
+    requires { ⌜ Lays cap (now file) map (now board) (now starts) ⌝ }
+    ensures { λ _. ⌜ (now (board .exit), now (starts .exit)) ≡ objectsLaid cap (fileOf (now (file .entry))) (now (board .entry)) (now (starts .entry)) ⌝ }
+{
     let mut at = objects_from(map.breaks);
     let mut place = 0;
     while place < map.objects as usize {

@@ -31,7 +31,7 @@ use scoring::score::score_play_at;
 use tree::size::size_of;
 ghost use mathlib.Core.Path.{_≡_};
 ghost use Rattle.map_file.specs.File.{fileOf};
-ghost use Rattle.map_file.specs.View.{answerOf};
+ghost use Rattle.play_reader.specs.View.{answerOf};
 ghost use Rattle.play_score.specs.PlayRules.{givenAnswer};
 ghost use Rattle.scoring.specs.Scores.{scoresOf, mapScoreOf, givenPlayOf, listedPlayOf};
 ghost use Rattle.board.specs.Place.{writtenLeft};

@@ -1,6 +1,5 @@
 // The running state of ScoreV1, object by object. Its combo points are those of multiplier 1: the multiplier is a factor of each of them.
 use numbers::rounding::float;
-use records::hit_object::HitObject;
 use records::hit_object::HitObjectKind;
 use records::hit_object::Slider;
 use records::hit_object::Spinner;
@@ -13,7 +12,7 @@ ghost use Rattle.rules.specs.Limits.{maxCombo, maxObjects, maxNested};
 ghost use Rattle.simulator.specs.Hits.{hitsOf};
 ghost use Rattle.simulator.specs.Walk.{walk, fresh};
 ghost use Rattle.simulator.specs.Attributes.{bonusRatioOf, legacyAttributesOf};
-ghost use Rattle.simulator.specs.Limits.{Within, Bounded, nestedCount};
+ghost use Rattle.simulator.specs.Limits.{Within, Bounded};
 ghost use Rattle.simulator.specs.View.{kindOf, times};
 
 pub struct OsuLegacyScoreSimulator {
@@ -111,18 +110,6 @@ impl OsuLegacyScoreSimulator {
             combo_score: self.combo_score + combo_points(self.combo),
             legacy_bonus_score,
             standardised_bonus_score,
-        }
-    }
-
-    pub fn step(self, object: HitObject) -> Self
-        requires { ⌜ Within (maxObjects - 1) self × (nestedCount (object .kind) ≤ maxNested) ⌝ }
-        ensures { λ r. ⌜ r ≡ walk 1 self (hitsOf (kindOf (object .kind))) ⌝ }
-    {
-        let kind = object.kind;
-        match kind {
-            HitObjectKind::Circle => self.circle(),
-            HitObjectKind::Slider(slider) => self.slider(slider),
-            HitObjectKind::Spinner(spinner) => self.spinner(spinner),
         }
     }
 

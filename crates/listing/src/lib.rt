@@ -14,14 +14,12 @@ use rules::refusal;
 use scoring::plays::Plays;
 use scoring::plays::check_plays;
 ghost use mathlib.Core.Path.{_≡_};
-ghost use mathlib.Core.List.{_++_};
-ghost use Prim.Native.Nat.{_<_, _^_};
+ghost use Prim.Native.Nat.{_≤_};
 ghost use lib.ListN.{length};
 ghost use Rattle.text.specs.Space.{putAt, behind};
-ghost use Rattle.lines.specs.Lines.{mapLine};
 ghost use Rattle.map_file.specs.File.{fileOf};
 ghost use Rattle.scoring.specs.Scores.{scoresOf};
-ghost use Rattle.listing.specs.Listing.{wantedLine, indexAfter, IsGood, playsText, fileText, inputText, listedAt, listedOf};
+ghost use Rattle.listing.specs.Listing.{GoodFile, playsText, fileText, inputText, listedAt, listedOf};
 
 // The most bytes that the listing program takes.
 pub const MAX_INPUT: usize = 65536;
@@ -32,8 +30,16 @@ pub enum Listed {
     NoRoom,
 }
 
-// The lines of a map's plays, all of which are good, from a place of the space on.
-fn put_plays(s: &[u8], map: Map, space: &mut [u8], from: usize) -> usize {
+// The lines of a file's plays from a place of the space on. They are all good, so that no play ends the lines early. Marks are made only for plays.
+fn put_plays(s: &[u8], map: Map, space: &mut [u8], from: usize) -> usize
+    requires { ⌜ GoodFile (now s) map ⌝ }
+    requires { ⌜ from ≤ length (now space) ⌝ }
+    ensures { λ r. ⌜ r ≡ behind (now (space .entry)) from (playsText (scoresOf (fileOf (now (s .entry))))) ⌝ }
+    ensures { λ _. ⌜ now (space .exit) ≡ putAt (now (space .entry)) from (playsText (scoresOf (fileOf (now (s .entry))))) ⌝ }
+{
+    if map.end == s.len() {
+        return from;
+    }
     let marks = marks_of(s, map);
     let mut to = from;
     let mut at = map.end;

@@ -77,6 +77,10 @@ playing-start {s = s} {p = p} k i = record {
   wanted = refl;
 }
 
+pub start-scores : {s : List ℕ} {p : ℕ} {m : Map} (k : MapIs s p m) (i : ℕ) → playing-start k i .scores ≡ []
+unfolding playing-start
+start-scores k i = refl
+
 -- ---- one more play
 module _ {s : List ℕ} {m : Map} {at : ℕ} {w : Wanted} {i : ℕ} (k : Playing s m at w i) where
   abbrev pub mapOf : MapData
@@ -123,6 +127,11 @@ module _ {s : List ℕ} {m : Map} {at : ℕ} {w : Wanted} {i : ℕ} (k : Playing
           is-good : (x : Checked PlayScore) → scored.Score y ≡ scoredOf x → x ≡ good y
           is-good (refused n) r = never (cc)
           is-good (good z) r = let same : z ≡ y = cc in ap good same
+
+      pub more-scores : (y : PlayScore) (r : scored.Score y ≡ scoredOf (playScoreOn mapOf q)) (v : Wanted) (c : v ≡ wantedAfter w y)
+          → playing-more y r v c .scores ≡ k .scores ++ (y ∷ [])
+      unfolding playing-more
+      more-scores y r v c = refl
 
   -- ---- the end of the file
   module _ (h : length s ≤ at) where

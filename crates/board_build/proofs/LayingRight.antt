@@ -1,5 +1,5 @@
 -- A pass over the objects of a map keeps, of both slices, what the objects so far have laid; at its end these are all objects.
-use Prim.Native.Nat.{ℕ, _+_, _-_, _≤_, _<_}
+use Prim.Native.Nat.{ℕ, _+_, _≤_, _<_}
 use mathlib.Core.Path.{_≡_, refl, sym, ap, ap₂, _∙_, subst}
 use mathlib.Core.List.{List, [], _∷_, _++_}
 use native.Mathlib.Omega.{arith}
@@ -9,7 +9,7 @@ use lib.ListN.{length, take, drop, set, length-append, length-map, length-take, 
 use lib.Seq.{take-all}
 use Rattle.numbers.specs.Words.{wordAt}
 use Rattle.rules.specs.Limits.{circleSize}
-use Rattle.rules.specs.Refusals.{good, refused}
+use Rattle.rules.specs.Refusals.{good}
 use Rattle.rules.proofs.All.{All, all-out}
 use Rattle.records.specs.Objects.{Object, kindView, objectView}
 use Rattle.records.specs.Records.{object, FoundRecord, objectOf, recordRead}
@@ -17,10 +17,10 @@ use Rattle.records.specs.declared.record.Record.{Record}
 use Rattle.records.specs.declared.record.Record.the-variants as record·case
 use Rattle.records.specs.declared.record.Read.{Read}
 use Rattle.records.specs.declared.record.Read.the-variants as read
-use Rattle.map_file.specs.File.{File, Map as MapData, Result, accepted, fileOf}
+use Rattle.map_file.specs.File.{Map as MapData, fileOf}
 use Rattle.map_file.proofs.Sizes.{Sized, object-sized}
 use Rattle.map_reader.specs.Objects.{objectsAt, stepped, ranOf}
-use Rattle.map_reader.specs.Map.{objectsFrom, MapIs, NextIs}
+use Rattle.map_reader.specs.Map.{objectsFrom, NextIs}
 use Rattle.map_reader.specs.declared.objects.Objects.{Objects}
 use Rattle.map_reader.specs.declared.objects.Ran.the-variants as ran
 use Rattle.map_reader.specs.declared.map.Map.{Map}
@@ -33,7 +33,7 @@ use Rattle.entries.proofs.Runs.{entry-own}
 use Rattle.tree.specs.Board.{startsOf}
 use Rattle.tree.specs.Build.{laid}
 use Rattle.tree.proofs.BuildRight.{laid-none, laid-snoc, laid-length}
-use Rattle.board_build.specs.Laying.{LaysRecord, recordLaid, LaysRead, readLaid, Lays, objectsOf, objectsLaid}
+use Rattle.board_build.specs.Laying.{recordLaid, LaysRead, readLaid, Lays, objectsOf, objectsLaid}
 
 -- ---- the start table
 -- the starts of the first objects, the rest as it was

@@ -1,12 +1,10 @@
 -- What the code keeps of a file: offsets and counts in place of the lists.
 use Prim.Native.Nat.{ℕ, _+_, _≤_, _<_}
-use mathlib.Core.Bool.{Bool, true, false}
-use mathlib.Core.List.{List}
 use lib.Ieee.{binary32, ofBits}
 use Rattle.map_file.specs.Order.{noRank, headerRank, breakRank, objectRank, playRank}
 use Rattle.rules.specs.Limits.{maxBreaks, maxObjects, maxBonus}
 use Rattle.spinner.specs.Bonus.{legacyOf}
-use Rattle.rules.specs.Refusals.{Checked, good, refused}
+use Rattle.rules.specs.Refusals.{good, refused}
 use Rattle.records.specs.Records.{Content, FoundRecord, contentView}
 use Rattle.map_file.specs.File.{File, countsOf}
 use Rattle.records.specs.declared.beatmap.Settings.{Settings}

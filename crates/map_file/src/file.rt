@@ -1,4 +1,4 @@
-// The whole map file: records in their order, counted, up to the end of the input or the first refusal.
+// The next record of a map file, by all its checks: the order, the counts, the record itself and the bonus.
 use numbers::words::word_at;
 use records::beatmap;
 use records::beatmap::BreakPeriod;

@@ -1,49 +1,30 @@
 -- The header of a map and the breaks behind it: what the code read of them is what the definition reads.
 use mathlib.Core.Path.{_≡_, refl, sym, ap, _∙_, subst}
-use mathlib.Core.Bool.{Bool, true, false, _&&_}
-use mathlib.Core.List.{List, [], _∷_, _++_}
-use Prim.Native.Nat.{ℕ, zero, suc, _+_, _*_, _-_, _≤_, _<_, min}
+use mathlib.Core.Bool.{Bool, true, false}
+use mathlib.Core.List.{List, []}
+use Prim.Native.Nat.{ℕ, zero, suc, _+_, _≤_, _<_}
 use native.Mathlib.Omega.{arith}
-use borrow.Author.Tests.{lt-ltb, le-ltb, eqb-true, ltb-true, ltb-false, leb-true, leb-false, eq-eqb, ne-eqb, eqb-false}
-use lib.Dec.{eqb, ltb, leb}
-use lib.Ieee.{binary64, ofBits}
-use lib.ListN.{length, take, drop, length-drop}
-use lib.Seq.{take-all}
-use Rattle.numbers.specs.Floats.{whole}
+use borrow.Author.Tests.{eqb-true, ltb-false, eqb-false}
+use lib.Dec.{eqb}
+use lib.ListN.{length, drop, length-drop}
 use Rattle.numbers.specs.Words.{wordAt}
-use Rattle.numbers.proofs.words.Laws.{wordAt-drop}
-use Rattle.rules.specs.Limits.{maxObjects, maxBreaks, maxBonus}
+use Rattle.rules.specs.Limits.{maxBreaks}
 use Rattle.rules.specs.Refusals.{good, refused, pick}
-use Rattle.rules.proofs.All.{All, none, that, all-any, all-when, all-out}
+use Rattle.rules.proofs.All.{All, that, all-any, all-when, all-out}
 use Rattle.rules.proofs.Laws.{never, and-left, and-right}
-use Rattle.records.specs.Objects.{Object, bonus}
+use Rattle.records.specs.Objects.{bonus}
 use Rattle.records.specs.Records.{Content, header, break, object, play, FoundRecord, breakOf, contentView}
 use Rattle.records.specs.declared.beatmap.Settings.{Settings}
 use Rattle.records.specs.declared.beatmap.BreakPeriod.{BreakPeriod}
-use Rattle.map_file.specs.Order.{BR, PL, recordOf}
+use Rattle.map_file.specs.Order.{BR, recordOf}
 use Rattle.map_file.specs.File.{File, countsOf, with-record, nothingRead, refusedAt, fileOf}
-use Rattle.map_file.specs.View.{Fits, view, freshOf}
-use Rattle.map_file.specs.declared.file.Reader.{Reader}
-use Rattle.map_file.proofs.Reading.{Chain, chain-inside, start, longer, chain-on, chain-plays, on-start, on-stop, on-end, foundAt, with-last, found-ordered, found-sized, length-snoc}
-use Rattle.map_file.proofs.Room.{placeOf, record-fits, Begun, record-begun}
-use Rattle.ruleset.specs.Drain.{startOf}
-use Rattle.ruleset.proofs.FileBreaks.{record-placed}
-use Rattle.map_reader.specs.Objects.{objectsAt, bonusOf, ranOf}
-use Rattle.map_reader.specs.Map.{objectsFrom, headWith, headOf, headIn, isGood, isBreak, breaksAfter, breaksCount, firstStart, rankBehind, readerBehind, stopOf, stopIn, mapAt, mapStopped, mapTo, thenRead, restOf, objectsOf, StateOf, RanTo, to as ran-to, Behind, nothing, plays, MapIs, MapReadOf, is, refuses}
-use Rattle.map_reader.specs.declared.objects.Objects.{Objects}
-use Rattle.map_reader.specs.declared.objects.Ran.{Ran}
-use Rattle.map_reader.specs.declared.objects.Ran.the-variants as ran
-use Rattle.map_reader.specs.declared.map.MapRead.{MapRead}
-use Rattle.map_reader.specs.declared.map.MapRead.the-variants as read
-use Rattle.map_reader.specs.declared.map.Head.{Head}
+use Rattle.map_file.specs.View.{Fits, freshOf}
+use Rattle.map_file.proofs.Reading.{Chain, chain-inside, start, longer, on-start, on-stop, on-end, foundAt, length-snoc}
+use Rattle.map_file.proofs.Room.{record-fits, Begun, record-begun}
+use Rattle.map_reader.specs.Map.{objectsFrom, headWith, headOf, headIn, isGood, isBreak, breaksAfter, breaksCount, is}
 use Rattle.map_reader.specs.declared.map.Head.the-variants as head
-use Rattle.map_reader.specs.declared.map.Stop.{Stop}
-use Rattle.map_reader.specs.declared.map.Stop.the-variants as stop
-use Rattle.map_reader.proofs.Running.{countOf, next-stops}
-use Rattle.map_reader.proofs.Heads.{breaks-next, breaks-stop, breaks-end}
-use Rattle.map_reader.proofs.Records.{break-good, found-break, found-play}
-use Rattle.map_reader.proofs.Files.{chain-limits, chain-standing, state-count, state-bonus, state-none, Keeps, NoBreak, keeps-stops, Ends, full, stopped, Follows, RanFile, to, over, keeps-ran, objectsRan}
-use Rattle.map_reader.proofs.Runs.{reads-on, ran-states}
+use Rattle.map_reader.proofs.Records.{break-good, found-break}
+use Rattle.map_reader.proofs.Files.{chain-standing, NoBreak}
 
 some : (n : ℕ) → (n ≡ 0 → ⊥) → 0 < n
 some zero h = absurd (h refl)

@@ -1,12 +1,10 @@
 -- The states of the loop are those of the files that the definition reads one after the other.
 use mathlib.Core.Path.{_≡_, refl, sym, ap, _∙_, subst}
-use mathlib.Core.Bool.{Bool, true, false}
 use mathlib.Core.List.{List, [], _∷_, _++_, append-nil, append-assoc}
 use Prim.Native.Nat.{ℕ, zero, suc, _+_, _-_, _≤_, _<_}
 use native.Mathlib.Omega.{arith}
 use lib.Ieee.{binary64, ofBits}
-use lib.ListN.{length, drop, length-drop, length-append}
-use Rattle.numbers.specs.Floats.{whole}
+use lib.ListN.{length, drop, length-drop}
 use Rattle.numbers.specs.Words.{wordAt}
 use Rattle.rules.specs.Limits.{maxObjects, maxBonus, circleSize}
 use Rattle.rules.specs.Refusals.{good, refused}
@@ -16,8 +14,8 @@ use Rattle.records.specs.Objects.{Object, bonus, kindBonus}
 use Rattle.records.specs.Records.{Content, header, break, object, play, FoundRecord, objectOf}
 use Rattle.records.specs.declared.beatmap.BreakPeriod.{BreakPeriod}
 use Rattle.map_file.specs.Order.{recordOf}
-use Rattle.map_file.specs.File.{File, countsOf, with-record, nothingRead, refusedAt, fileOf}
-use Rattle.map_file.proofs.Reading.{Chain, start, longer, chain-on, chain-plays, on-stop, foundAt, with-at, with-last, found-ordered, length-snoc, chain-file, chain-inside}
+use Rattle.map_file.specs.File.{File, countsOf, with-record, refusedAt, fileOf}
+use Rattle.map_file.proofs.Reading.{Chain, start, longer, chain-on, chain-plays, on-stop, foundAt, with-last, found-ordered, length-snoc, chain-file}
 use Rattle.map_file.proofs.Sizes.{Sized, object-sized}
 use Rattle.encoding.specs.Limits.{MapWithin}
 use Rattle.encoding.proofs.Accepted.{accepted-within}
@@ -28,7 +26,7 @@ use Rattle.simulator.specs.Walk.{State, fresh, walk, after}
 use Rattle.simulator.specs.Nested.{noObject, counted, countedAll}
 use Rattle.simulator.specs.declared.legacy_score.NestedScorePerObject.{NestedScorePerObject}
 use Rattle.simulator.proofs.Walks.{after-append}
-use Rattle.simulator.proofs.Few.{each-few, count-is, passed-within, passed-counted}
+use Rattle.simulator.proofs.Few.{count-is}
 use Rattle.map_reader.specs.Objects.{objectsAt, bonusOf, nextOf, ranBy, ranOf}
 use Rattle.map_reader.specs.Map.{StateOf}
 use Rattle.map_reader.specs.declared.objects.Objects.{Objects}
@@ -38,7 +36,7 @@ use Rattle.map_reader.specs.declared.objects.Ran.{Ran}
 use Rattle.map_reader.specs.declared.objects.Ran.the-variants as ran
 use Rattle.map_reader.proofs.Stepping.{walk-legacy}
 use Rattle.map_reader.proofs.Records.{object-good, object-over, found-object, object-long, object-start}
-use Rattle.map_reader.proofs.Running.{countOf, objectAt, Took, Over, Stops, short, none, Answered, took, stop, over as over·by, answered, took-count, ran-next, ran-stop, ran-over}
+use Rattle.map_reader.proofs.Running.{countOf, objectAt, Took, Stops, short, none, Answered, took, stop, over as over·by, answered, took-count, ran-next, ran-stop, ran-over}
 
 -- ---- any file that was read so far, from its header on
 pub chain-limits : (s : List ℕ) (f : File) → Chain s f → 0 < f .last → MapWithin (f .map)
@@ -100,9 +98,6 @@ abbrev pub NoObject : List ℕ → File → Type 0
 NoObject s f = (o : Object) (n : ℕ) → foundAt s f ≡ good (object o, n) → ⊥
 
 module _ {s : List ℕ} {f : File} {x : Objects} (k : Keeps s f x) where
-  pub keeps-limits : MapWithin (f .map)
-  keeps-limits = chain-limits s f (k .chain) (k .begun)
-
   keeps-count : length (f .map .objects) ≡ countOf x
   keeps-count = sym (state-count (k .state))
 

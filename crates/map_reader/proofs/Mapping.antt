@@ -2,37 +2,36 @@
 use mathlib.Core.Path.{_≡_, refl, sym, ap, _∙_, subst}
 use mathlib.Core.Bool.{Bool, true, false}
 use mathlib.Core.List.{List, [], _∷_, _++_}
-use Prim.Native.Nat.{ℕ, zero, suc, _+_, _*_, _-_, _≤_, _<_, min}
+use Prim.Native.Nat.{ℕ, zero, suc, _+_, _-_, _≤_, _<_, min}
 use native.Mathlib.Omega.{arith}
-use borrow.Author.Tests.{lt-ltb, le-ltb, eqb-true, eqb-false, leb-true, leb-false, eq-eqb, ne-eqb}
-use lib.Dec.{eqb, ltb, leb}
+use borrow.Author.Tests.{lt-ltb, eqb-true, eqb-false, leb-true, leb-false, ne-eqb}
+use lib.Dec.{eqb, leb}
 use lib.Ieee.{binary64, ofBits}
 use lib.ListN.{length, take, drop}
 use lib.Seq.{take-all}
 use Rattle.numbers.specs.Floats.{whole}
 use Rattle.numbers.specs.Words.{wordAt}
 use Rattle.numbers.proofs.words.Laws.{wordAt-drop}
-use Rattle.rules.specs.Limits.{maxObjects, maxBreaks}
+use Rattle.rules.specs.Limits.{maxObjects}
 use Rattle.rules.specs.Refusals.{good, refused, pick}
 use Rattle.rules.proofs.All.{All, all-out}
 use Rattle.rules.proofs.Laws.{never}
 use Rattle.records.specs.Objects.{Object}
 use Rattle.records.specs.Records.{Content, header, break, object, play, FoundRecord, contentView}
 use Rattle.records.specs.declared.beatmap.Settings.{Settings}
-use Rattle.map_file.specs.Order.{PL, recordOf}
-use Rattle.map_file.specs.File.{File, countsOf, with-record, nothingRead, refusedAt, fileOf}
+use Rattle.map_file.specs.Order.{PL}
+use Rattle.map_file.specs.File.{File, countsOf, with-record, refusedAt, fileOf}
 use Rattle.map_file.specs.View.{Fits, view}
 use Rattle.map_file.specs.declared.file.Reader.{Reader}
-use Rattle.map_file.proofs.Reading.{Chain, start, longer, chain-on, chain-plays, on-stop, foundAt, with-last, found-ordered, length-snoc}
+use Rattle.map_file.proofs.Reading.{Chain, start, longer, chain-on, chain-plays, on-stop, foundAt, found-ordered, length-snoc}
 use Rattle.map_file.proofs.Room.{record-fits}
 use Rattle.ruleset.specs.Drain.{startOf}
 use Rattle.ruleset.proofs.FileBreaks.{Placed, record-placed}
-use Rattle.map_reader.specs.Objects.{objectsAt, bonusOf, ranOf}
+use Rattle.map_reader.specs.Objects.{objectsAt, ranOf}
 use Rattle.map_reader.specs.Map.{objectsFrom, headIn, breaksCount, firstStart, rankBehind, readerBehind, stopOf, stopIn, mapAt, mapStopped, mapTo, thenRead, restOf, objectsOf, StateOf, RanTo, to as ran-to, Behind, nothing, plays, MapIs, MapReadOf, is, refuses}
 use Rattle.map_reader.specs.declared.objects.Objects.{Objects}
 use Rattle.map_reader.specs.declared.objects.Ran.{Ran}
 use Rattle.map_reader.specs.declared.objects.Ran.the-variants as ran
-use Rattle.map_reader.specs.declared.map.MapRead.{MapRead}
 use Rattle.map_reader.specs.declared.map.MapRead.the-variants as read
 use Rattle.map_reader.specs.declared.map.Head.the-variants as head
 use Rattle.map_reader.specs.declared.map.Stop.{Stop}
@@ -41,7 +40,7 @@ use Rattle.map_reader.proofs.Running.{countOf, next-stops}
 use Rattle.map_reader.proofs.Records.{found-play}
 use Rattle.map_reader.proofs.Files.{chain-limits, state-count, state-bonus, state-none, Keeps, NoBreak, keeps-stops, Ends, full, stopped, Follows, RanFile, to, over, keeps-ran, objectsRan}
 use Rattle.map_reader.proofs.Runs.{reads-on, ran-states, ran-nexts}
-use Rattle.map_reader.proofs.Breaks.{BreaksAt, BreaksEnd, breaks-place, head-reads, head-refuses}
+use Rattle.map_reader.proofs.Breaks.{BreaksEnd, breaks-place, head-reads, head-refuses}
 
 -- ---- the place in the order of a map's last record
 pub chain-no-objects : (s : List ℕ) (f : File) → Chain s f → f .last ≤ 2 → f .map .objects ≡ []

@@ -1,22 +1,22 @@
 -- What the definition finds behind a map that was read so far: a good object or break is the next record, and which records can follow at all.
 use mathlib.Core.Path.{_≡_, refl, sym, ap, _∙_, subst}
-use mathlib.Core.Bool.{Bool, true, false, _&&_, not}
+use mathlib.Core.Bool.{Bool, true, false}
 use mathlib.Core.List.{List}
-use Prim.Native.Nat.{ℕ, _+_, _-_, _≤_, _<_}
+use Prim.Native.Nat.{ℕ, _+_, _≤_, _<_}
 use native.Mathlib.Omega.{arith}
-use borrow.Author.Tests.{lt-ltb, le-ltb, lt-leb, le-leb, ne-eqb, eqb-true}
-use lib.Dec.{eqb, ltb, leb}
+use borrow.Author.Tests.{lt-ltb, le-ltb, lt-leb, le-leb, eqb-true}
+use lib.Dec.{eqb}
 use lib.Ieee.{binary64, ofBits}
-use lib.ListN.{length, drop}
+use lib.ListN.{length}
 use Rattle.numbers.specs.Words.{wordAt}
 use Rattle.rules.specs.Limits.{maxObjects, maxBreaks, maxBonus, circleSize}
-use Rattle.rules.specs.Refusals.{Checked, good, refused, _>>=_, _>>_, refuse_when_, pick}
+use Rattle.rules.specs.Refusals.{good, refused, _>>=_, _>>_, refuse_when_, pick}
 use Rattle.rules.proofs.All.{All, none, that, all-bind, all-any, all-when, all-pick, all-out}
 use Rattle.rules.proofs.Laws.{never}
 use Rattle.records.specs.Objects.{Object, kindBonus}
-use Rattle.records.specs.Records.{Content, header, break, object, play, FoundRecord, CI, SL, SP, breakOf, circleOf, sliderOf, spinnerOf, objectOf}
+use Rattle.records.specs.Records.{Content, header, break, object, play, CI, SL, SP, breakOf, circleOf, sliderOf, spinnerOf, objectOf}
 use Rattle.records.specs.declared.beatmap.BreakPeriod.{BreakPeriod}
-use Rattle.map_file.specs.Order.{MH, BR, PL, rankOf, inOrder, isFull, bodyOf, recordOf}
+use Rattle.map_file.specs.Order.{MH, BR, PL, rankOf, bodyOf, recordOf}
 use Rattle.map_file.specs.declared.file.Counts.{Counts}
 use Rattle.map_file.proofs.Room.{placeOf, Placed, body-placed}
 use Rattle.map_file.proofs.Local.{record-body}

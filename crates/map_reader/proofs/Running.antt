@@ -4,7 +4,7 @@ use mathlib.Core.Bool.{Bool, true, false}
 use mathlib.Core.List.{List}
 use Prim.Native.Nat.{ℕ, zero, suc, _+_, _-_, _≤_, _<_}
 use native.Mathlib.Omega.{arith}
-use borrow.Author.Tests.{lt-ltb, le-ltb, ltb-true, ltb-false, ne-eqb, eq-eqb}
+use borrow.Author.Tests.{lt-ltb, le-ltb, ltb-true, ltb-false, ne-eqb}
 use lib.Dec.{ltb, eqb}
 use lib.ListN.{length, drop, length-drop}
 use Rattle.numbers.specs.Words.{wordAt}
@@ -12,20 +12,16 @@ use Rattle.rules.specs.Limits.{maxObjects, maxNested, maxBonus, circleSize}
 use Rattle.rules.specs.Refusals.{good, refused, pick}
 use Rattle.rules.proofs.All.{All, none as nothing, that, all-any, all-when, all-pick, all-out}
 use Rattle.rules.proofs.Laws.{never}
-use Rattle.records.specs.Objects.{Object, Kind, circle, slider, spinner, kindView, kindBonus}
-use Rattle.records.specs.Records.{Content, header, break, object, play, FoundRecord, CI, SL, SP, circleOf, sliderOf, spinnerOf, objectOf}
+use Rattle.records.specs.Objects.{Object, kindView, kindBonus}
+use Rattle.records.specs.Records.{Content, object, FoundRecord, CI, SL, SP, circleOf, sliderOf, spinnerOf, objectOf}
 use Rattle.map_file.proofs.Sizes.{Sized, object-sized}
-use Rattle.simulator.specs.Walk.{fresh}
-use Rattle.simulator.specs.Nested.{noObject, counted}
 use Rattle.simulator.specs.Limits.{Within, Counted, nestedCount}
-use Rattle.simulator.specs.declared.legacy_score.NestedScorePerObject.{NestedScorePerObject}
 use Rattle.simulator.proofs.Bounds.{fresh-within, within-more, step-within, none-counted, counted-more, step-counted}
 use Rattle.simulator.proofs.Few.{FewIn, object-few, one-more}
 use Rattle.map_reader.specs.Objects.{objectsAt, stepped, bonusOf, steppedWith, steppedBy, nextOf, ranBy, ranOf, Room, Small}
 use Rattle.map_reader.specs.declared.objects.Objects.{Objects}
 use Rattle.map_reader.specs.declared.objects.Stepped.{Stepped}
 use Rattle.map_reader.specs.declared.objects.Stepped.the-variants as step
-use Rattle.map_reader.specs.declared.objects.Ran.{Ran}
 use Rattle.map_reader.specs.declared.objects.Ran.the-variants as ran
 use Rattle.map_reader.proofs.Stepping.{walk-legacy}
 
@@ -144,12 +140,6 @@ next-stops s x e = out (subst (Answered s x) (sym e) (answered s x))
   where
     out : Answered s x step.Stop → Stops s x
     out (stop k) = k
-
-pub next-over : (s : List ℕ) (x : Objects) → step.OverBonus ≡ nextOf s x → Over s x
-next-over s x e = out (subst (Answered s x) (sym e) (answered s x))
-  where
-    out : Answered s x step.OverBonus → Over s x
-    out (over k) = k
 
 -- ---- the bounds
 pub small-room : (s : List ℕ) (x : Objects) → Small s x → countOf x < maxObjects → Room x

@@ -16,7 +16,7 @@ use Rattle.map_reader.specs.declared.objects.Stepped.{Stepped}
 use Rattle.map_reader.specs.declared.objects.Stepped.the-variants as step
 use Rattle.map_reader.specs.declared.objects.Ran.{Ran}
 use Rattle.map_reader.specs.declared.objects.Ran.the-variants as ran
-use Rattle.map_reader.proofs.Running.{countOf, Took, Answered, took, stop, over as over·by, answered, ran-next, ran-stop, ran-over}
+use Rattle.map_reader.proofs.Running.{countOf, Answered, took, answered, ran-next, ran-stop, ran-over}
 use Rattle.map_reader.proofs.Files.{Keeps, objectsRan, taken-next, taken-stop, taken-over, Ends, full, stopped, Follows, RanFile, to, over, keeps-ran, state-count}
 
 abbrev pub ranThen : Ran → (Objects → Ran) → Ran

@@ -1,7 +1,7 @@
 -- One object: what the code read is the object that the definition finds, and the state goes the definition's step.
 use mathlib.Core.Path.{_≡_, refl, sym, ap, _∙_, subst}
 use mathlib.Core.List.{List, []}
-use Prim.Native.Nat.{ℕ, _+_, _-_, _≤_, _<_}
+use Prim.Native.Nat.{ℕ, _+_, _≤_, _<_}
 use native.Mathlib.Omega.{arith}
 use borrow.Author.Tests.{lt-ltb, le-ltb}
 use lib.Ieee.{Float}
@@ -10,7 +10,7 @@ use Rattle.numbers.specs.Floats.{whole}
 use Rattle.rules.specs.Limits.{maxNested, maxBonus}
 use Rattle.rules.specs.Refusals.{good, refused}
 use Rattle.records.specs.Objects.{Item, Object, Kind, circle, slider, spinner, sliderView, kindView, objectView, kindBonus}
-use Rattle.records.specs.Records.{Content, header, break, object, play, FoundRecord, contentView, recordRead, circleOf, sliderOf, spinnerOf, objectOf}
+use Rattle.records.specs.Records.{Content, object, FoundRecord, contentView, recordRead, circleOf, sliderOf, spinnerOf, objectOf}
 use Rattle.records.specs.declared.hit_object.Slider.{Slider}
 use Rattle.records.specs.declared.hit_object.HitObject.{HitObject}
 use Rattle.records.specs.declared.hit_object.HitObjectKind.{HitObjectKind}

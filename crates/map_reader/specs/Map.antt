@@ -9,7 +9,7 @@ use lib.ListN.{length, take, drop}
 use Rattle.numbers.specs.Floats.{whole}
 use Rattle.numbers.specs.Words.{wordAt}
 use Rattle.rules.specs.Limits.{maxObjects, maxBreaks, headerSize, breakSize, circleSize}
-use Rattle.rules.specs.Refusals.{Checked, good, refused, pick, MARK, BONUS}
+use Rattle.rules.specs.Refusals.{good, refused, pick, MARK, BONUS}
 use Rattle.records.specs.Objects.{Object}
 use Rattle.records.specs.Records.{Content, header, break, object, play, FoundRecord, breakOf, objectOf}
 use Rattle.records.specs.declared.beatmap.Settings.{Settings}

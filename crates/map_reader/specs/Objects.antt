@@ -1,12 +1,12 @@
 -- Document 01, "Simulation": "Each object steps the running state". The loop over a map's objects, as far as they are read with no refusal.
 use Prim.Native.Nat.{ℕ, zero, suc, _+_, _-_, _≤_}
 use mathlib.Core.List.{List}
-use lib.Dec.{eqb, ltb}
+use lib.Dec.{ltb}
 use lib.ListN.{length, drop}
 use Rattle.numbers.specs.Floats.{whole}
 use Rattle.numbers.specs.Words.{wordAt}
 use Rattle.rules.specs.Limits.{maxObjects, maxBonus, circleSize}
-use Rattle.rules.specs.Refusals.{Checked, good, refused, pick}
+use Rattle.rules.specs.Refusals.{good, refused, pick}
 use Rattle.records.specs.Objects.{Object, kindBonus}
 use Rattle.records.specs.Records.{Content, header, break, object, play, FoundRecord, objectOf}
 use Rattle.simulator.specs.Hits.{hitsOf}

@@ -1,17 +1,17 @@
 -- The answers of the calls on a whole file, from its map and the end of its plays.
-use mathlib.Core.Path.{_≡_, refl, sym, ap, _∙_, subst}
+use mathlib.Core.Path.{_≡_, sym, ap, _∙_}
 use mathlib.Core.List.{List}
-use Prim.Native.Nat.{ℕ, _≤_, _<_}
+use Prim.Native.Nat.{ℕ, _≤_}
 use native.Mathlib.Omega.{arith}
 use borrow.Author.Tests.{lt-ltb, le-ltb}
-use lib.ListN.{length, take}
+use lib.ListN.{length}
 use lib.Seq.{take-all}
-use Rattle.records.specs.Objects.{Object, bonus}
-use Rattle.map_file.specs.File.{File, Result, accepted, refusedAt, countsOf, fileOf}
+use Rattle.records.specs.Objects.{bonus}
+use Rattle.map_file.specs.File.{File, Result, countsOf, fileOf}
 use Rattle.map_file.specs.File.{Map as MapData}
 use Rattle.map_file.specs.View.{view}
 use Rattle.map_reader.specs.Objects.{bonusOf}
-use Rattle.map_reader.specs.Map.{MapIs, rankBehind}
+use Rattle.map_reader.specs.Map.{MapIs}
 use Rattle.map_reader.specs.Attributes.{attributesIn}
 use Rattle.map_reader.specs.declared.map.Map.{Map}
 use Rattle.map_reader.proofs.Files.{state-bonus}
@@ -23,7 +23,6 @@ use Rattle.play_reader.specs.Plays.{Place, first, later, Reached, MapFil
 use Rattle.play_reader.specs.View.{lastRank, readerIn, answerOf, simulatedOf}
 use Rattle.play_reader.specs.declared.MapFile.the-variants as map·file
 use Rattle.play_reader.specs.declared.Answer.the-variants as answer
-use Rattle.play_reader.specs.declared.Simulated.{Simulated}
 use Rattle.play_reader.specs.declared.Simulated.the-variants as simulated
 use Rattle.play_reader.proofs.Playing.{reached-end, end-is}
 

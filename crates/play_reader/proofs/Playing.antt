@@ -1,16 +1,16 @@
 -- Behind a map only plays stand: what the code reads there is the definition's next record, or its refusal.
 use mathlib.Core.Path.{_≡_, refl, sym, ap, _∙_, subst}
 use mathlib.Core.Bool.{Bool, true, false, not}
-use mathlib.Core.List.{List, [], _∷_, _++_}
-use Prim.Native.Nat.{ℕ, zero, suc, _+_, _-_, _≤_, _<_}
+use mathlib.Core.List.{List}
+use Prim.Native.Nat.{ℕ, zero, suc, _+_, _≤_, _<_}
 use native.Mathlib.Omega.{arith}
-use borrow.Author.Tests.{lt-ltb, le-ltb, le-leb, eq-eqb, ne-eqb, eqb-true, eqb-false, ltb-true, ltb-false}
-use lib.Dec.{eqb, ltb, leb}
+use borrow.Author.Tests.{lt-ltb, le-ltb, le-leb, ne-eqb, eqb-true, eqb-false, ltb-true, ltb-false}
+use lib.Dec.{eqb, ltb}
 use lib.ListN.{length, drop, length-drop}
 use Rattle.numbers.specs.Words.{wordAt}
 use Rattle.rules.specs.Limits.{maxBonus}
-use Rattle.rules.specs.Refusals.{Checked, good, refused, _>>=_, _>>_, refuse_when_, pick}
-use Rattle.rules.proofs.All.{All, none, that, all-any, all-when, all-out}
+use Rattle.rules.specs.Refusals.{good, refused, _>>=_, _>>_, refuse_when_, pick}
+use Rattle.rules.proofs.All.{All, that, all-any, all-when, all-out}
 use Rattle.rules.proofs.Laws.{never}
 use Rattle.records.specs.Objects.{bonus}
 use Rattle.records.specs.Records.{Content, header, break, object, play, FoundRecord, contentView, recordRead, CI, SL, SP, playOf}
@@ -21,11 +21,10 @@ use Rattle.records.specs.declared.record.Record.{Record}
 use Rattle.records.specs.declared.record.Record.the-variants as record·case
 use Rattle.records.specs.declared.record.Read.the-variants as record·read
 use Rattle.play_state.specs.declared.Play.{Play}
-use Rattle.map_file.specs.Order.{MH, BR, PL, rankOf, inOrder, isFull, overBonus, contentBonus, bodyOf, recordOf}
+use Rattle.map_file.specs.Order.{MH, BR, PL, rankOf, inOrder, overBonus, contentBonus, bodyOf, recordOf}
 use Rattle.map_file.specs.File.{File, accepted, refusedAt, countsOf, with-record, follow, ended, fileFrom, fileOf}
-use Rattle.map_file.specs.View.{view}
 use Rattle.map_file.specs.declared.file.Counts.{Counts}
-use Rattle.map_file.proofs.Reading.{Chain, longer, chain-on, chain-inside, on-stop, on-end, foundAt, ended-is}
+use Rattle.map_file.proofs.Reading.{longer, chain-on, chain-inside, on-stop, on-end, foundAt, ended-is}
 use Rattle.map_reader.specs.Map.{MapIs, MapReadOf, is, Behind, nothing, plays}
 use Rattle.map_reader.specs.declared.map.MapRead.the-variants as map·read
 use Rattle.map_reader.specs.declared.map.Map.{Map}

@@ -1,13 +1,13 @@
 -- Document 01, "Records of the map file": "any PL" behind the objects. What the code reads of them, and what that says of the file.
 use Prim.Native.Nat.{ℕ, _≤_, _<_}
 use mathlib.Core.Path.{_≡_}
-use mathlib.Core.Bool.{Bool, not}
+use mathlib.Core.Bool.{not}
 use mathlib.Core.List.{List}
 use lib.Dec.{eqb}
 use lib.ListN.{length}
 use Rattle.numbers.specs.Words.{wordAt}
 use Rattle.rules.specs.Limits.{markSize}
-use Rattle.rules.specs.Refusals.{Checked, good, refused, _>>_, refuse_when_, CUT, MARK}
+use Rattle.rules.specs.Refusals.{good, refused, _>>_, refuse_when_, CUT, MARK}
 use Rattle.records.specs.Fields.{cut}
 use Rattle.records.specs.Records.{Content, header, break, object, play, FoundRecord, playOf}
 use Rattle.map_file.specs.Order.{PL, playRank}

@@ -118,7 +118,7 @@ fn reader_in(s: &[u8], map: Map) -> Reader
     }
 }
 
-// The map file: its sums, or the first refusal.
+// The map file: its settings and counts, or the first refusal.
 pub fn read_map(s: &[u8]) -> Answer
     ensures { λ r. ⌜ r ≡ answerOf (fileOf (now (s .entry))) ⌝ }
 {

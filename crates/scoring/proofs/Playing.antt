@@ -5,27 +5,25 @@ use mathlib.Core.List.{List, [], _∷_, _++_}
 use Prim.Native.Nat.{ℕ, zero, suc, _+_, _≤_, _<_, min}
 use native.Mathlib.Omega.{arith}
 use borrow.Author.Tests.{ne-eqb, eqb-true}
-use lib.Dec.{ltb, eqb}
+use lib.Dec.{ltb}
 use lib.ListN.{length, drop}
 use Rattle.rules.specs.Refusals.{Checked, good, refused, pick}
 use Rattle.records.specs.Records.{Content, header, break, object, play, FoundRecord}
-use Rattle.map_file.specs.File.{File, Map as MapData, Result, accepted, refusedAt, with-record, follow, ended, fileFrom, fileOf}
+use Rattle.map_file.specs.File.{File, Map as MapData, Result, refusedAt, with-record, follow, ended, fileFrom, fileOf}
 use Rattle.map_file.proofs.Room.{placeOf}
-use Rattle.map_file.proofs.Reading.{Chain, foundAt, found-ordered, chain-on, chain-plays}
+use Rattle.map_file.proofs.Reading.{foundAt, found-ordered, chain-on, chain-plays}
 use Rattle.play_state.specs.declared.Play.{Play}
 use Rattle.map_reader.specs.Map.{MapIs}
 use Rattle.map_reader.specs.declared.map.Map.{Map}
 use Rattle.map_reader.proofs.Passed.{attributes-passed}
-use Rattle.play_reader.specs.Plays.{playIn, Reached}
+use Rattle.play_reader.specs.Plays.{playIn}
 use Rattle.play_reader.specs.declared.PlayRead.the-variants as read
 use Rattle.play_reader.proofs.Playing.{ReadTo, read-start, read-more, read-stop, read-end, reached-end}
-use Rattle.simulator.specs.Attributes.{scoreAttributesAt}
 use Rattle.simulator.specs.declared.attributes.ScoreAttributes.{ScoreAttributes}
 use Rattle.play_score.specs.PlayRules.{playScore, scoredOf}
 use Rattle.play_score.specs.declared.PlayScore.{PlayScore}
-use Rattle.play_score.specs.declared.Scored.{Scored}
 use Rattle.play_score.specs.declared.Scored.the-variants as scored
-use Rattle.scoring.specs.Scores.{Outcome, refusal, values, then, Scores, playScoreOn, playScores, scoresOf}
+use Rattle.scoring.specs.Scores.{Outcome, refusal, values, then, playScoreOn, playScores, scoresOf}
 use Rattle.scoring.specs.View.{wantedOf, wantedAfter, passesAsMany, Playing, Attributed, checkedOf}
 use Rattle.scoring.specs.declared.plays.Wanted.{Wanted}
 use Rattle.scoring.specs.declared.plays.Wanted.the-variants as wanted

@@ -1,9 +1,7 @@
 -- `lay` is right since the objects of the map stand one after the other, and each is laid where the definition lays it.
-use mathlib.Core.Path.{_≡_, sym, ap, _∙_}
-use Prim.Native.Nat.{_+_, _-_, _<_}
+use Prim.Native.Nat.{_-_}
 use native.Mathlib.Omega.{arith}
 use borrow.Author.Needs.{needs}
-use lib.ListN.{length}
 use Rattle.map_file.proofs.Steps.{rest-is}
 use Rattle.map_reader.proofs.Attributed.{complete}
 use Rattle.board_build.proofs.LayingRight.{SoFar, laying-start, same-words, same-numbers, laying-inside, laying-room, laying-ahead, laying-object, laying-end}

@@ -1,5 +1,4 @@
 -- Behind a map that ends before the file stand plays.
-use mathlib.Core.Path.{_≡_, sym, _∙_}
 use borrow.Author.Tests.{lt-ltb, le-ltb}
 use borrow.Author.Needs.{needs}
 use Rattle.play_reader.proofs.last_rank.Statement.{statement}

@@ -1,8 +1,6 @@
 -- The mark is a play's or the record is refused; then the record's own fields are read.
-use mathlib.Core.Path.{_≡_, sym, ap, _∙_}
-use mathlib.Core.List.{List}
-use Prim.Native.Nat.{ℕ, _-_}
-use native.Mathlib.Omega.{arith}
+use mathlib.Core.Path.{ap, _∙_}
+use Prim.Native.Nat.{_-_}
 use denote.Ref.{now}
 use lib.ListN.{length, take, drop}
 use Rattle.rules.proofs.Laws.{so}

@@ -1,13 +1,12 @@
 -- The map, then one record of a play after another, each of which the definition finds there.
-use mathlib.Core.Path.{_≡_, sym, ap, _∙_, subst}
+use mathlib.Core.Path.{subst}
 use mathlib.Core.List.{List}
-use Prim.Native.Nat.{ℕ, _-_, _≤_}
+use Prim.Native.Nat.{ℕ, _-_}
 use native.Mathlib.Omega.{arith}
 use denote.Ref.{now}
 use lib.ListN.{length}
 use Rattle.rules.proofs.Laws.{so}
 use Rattle.map_reader.specs.Map.{MapReadOf, refuses as map-refuses}
-use Rattle.map_reader.specs.declared.map.MapRead.{MapRead}
 use Rattle.map_reader.specs.declared.map.MapRead.the-variants as map·read
 use Rattle.play_reader.specs.Plays.{MapFileOf, all, refuses}
 use Rattle.play_reader.specs.declared.MapFile.the-variants as map·file

@@ -1,5 +1,5 @@
 -- The map and the end of its plays are the view of the file.
-use mathlib.Core.Path.{_≡_, ap, _∙_, subst}
+use mathlib.Core.Path.{ap, _∙_, subst}
 use denote.Ref.{now}
 use Rattle.play_reader.specs.Plays.{MapFileOf}
 use Rattle.play_reader.specs.declared.Answer.the-variants as answer

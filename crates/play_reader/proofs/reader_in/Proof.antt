@@ -1,5 +1,4 @@
 -- Each part is the map's own.
-use mathlib.Core.Path.{_≡_}
 use borrow.Author.Needs.{needs}
 use Rattle.play_reader.proofs.reader_in.Statement.{statement}
 use Rattle.play_reader.proofs.reader_in.Tie as tie

@@ -1,5 +1,5 @@
 -- The attributes are those of the file's map.
-use mathlib.Core.Path.{_≡_, subst}
+use mathlib.Core.Path.{subst}
 use denote.Ref.{now}
 use Rattle.map_reader.proofs.Attributed.{complete}
 use Rattle.play_reader.specs.Plays.{MapFileOf}

@@ -1,15 +1,10 @@
 -- The passed objects, then the rest.
-use mathlib.Core.Path.{_≡_, sym, ap, _∙_, subst}
-use Prim.Native.Nat.{_≤_}
+use mathlib.Core.Path.{sym, ap, _∙_, subst}
 use native.Mathlib.Omega.{arith}
 use denote.Ref.{now}
-use lib.ListN.{length}
-use Rattle.rules.specs.Limits.{maxObjects}
 use Rattle.rules.proofs.Laws.{so}
 use Rattle.map_reader.specs.Objects.{objectsAt, Small}
 use Rattle.map_reader.specs.Map.{objectsFrom, mapTo, restOf, thenRead}
-use Rattle.map_reader.specs.declared.objects.Objects.{Objects}
-use Rattle.map_reader.specs.declared.objects.Ran.the-variants as ran
 use Rattle.map_reader.proofs.Running.{small-start, small-ran, ran-whole}
 use Rattle.map_reader.proofs.Mapping.{ran-from}
 use borrow.Author.Needs.{needs}

@@ -1,12 +1,10 @@
 -- Header and breaks, then the objects: what was read is the map of the file.
-use mathlib.Core.Path.{_≡_, sym, ap, _∙_, subst}
-use Prim.Native.Nat.{ℕ, _≤_}
+use mathlib.Core.Path.{sym, ap, _∙_, subst}
+use Prim.Native.Nat.{ℕ}
 use native.Mathlib.Omega.{arith}
 use denote.Ref.{now}
-use lib.ListN.{length}
 use Rattle.rules.proofs.Laws.{so}
-use Rattle.map_reader.specs.Map.{objectsFrom, objectsOf, MapReadOf}
-use Rattle.map_reader.specs.declared.map.MapRead.{MapRead}
+use Rattle.map_reader.specs.Map.{objectsOf, MapReadOf}
 use Rattle.map_reader.proofs.Breaks.{head-reads, breaks-inside}
 use Rattle.map_reader.proofs.Mapping.{read-is, read-refused}
 use borrow.Author.Needs.{needs}

@@ -1,5 +1,5 @@
 -- All objects behind those that are passed, then the end of the map.
-use mathlib.Core.Path.{_≡_, ap, _∙_}
+use mathlib.Core.Path.{ap, _∙_}
 use denote.Ref.{now}
 use Rattle.rules.proofs.Laws.{so}
 use Rattle.map_reader.specs.Map.{mapTo, thenRead}

@@ -1,6 +1,5 @@
 -- Each turn is one step of the definition.
-use denote.Ref.{now}
-use Prim.Native.Nat.{ℕ, _-_}
+use Prim.Native.Nat.{_-_}
 use Rattle.rules.proofs.Laws.{so}
 use Rattle.map_reader.proofs.Running.{Running, running-start, running-room, running-less, running-next, running-over, running-stop, running-end}
 use borrow.Author.Needs.{needs}

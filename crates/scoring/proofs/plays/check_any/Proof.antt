@@ -1,18 +1,12 @@
 -- Each play is the definition's next, and from its mark it is scored on its own passed objects.
-use mathlib.Core.Path.{_≡_, sym, ap, _∙_, subst}
-use mathlib.Core.List.{List}
-use Prim.Native.Nat.{ℕ, _-_, _≤_}
+use mathlib.Core.Path.{sym, ap, _∙_}
+use Prim.Native.Nat.{ℕ, _-_}
 use native.Mathlib.Omega.{arith}
-use denote.Ref.{now}
 use lib.ListN.{length}
 use Rattle.rules.proofs.Laws.{so}
-use Rattle.map_file.specs.File.{fileOf}
 use Rattle.play_reader.proofs.Playing.{read-inside}
-use Rattle.play_score.specs.declared.Scored.{Scored}
 use Rattle.marks.proofs.Marked.{mark-there, scored-is}
-use Rattle.scoring.specs.Scores.{scoresOf}
-use Rattle.scoring.specs.View.{wantedAfter, Playing, checkedOf}
-use Rattle.scoring.specs.declared.plays.Wanted.{Wanted}
+use Rattle.scoring.specs.View.{Playing, checkedOf}
 use Rattle.scoring.proofs.Playing.{playing-cut, playing-refused, playing-more, playing-end}
 use borrow.Author.Needs.{needs}
 use Rattle.scoring.proofs.plays.check_any.Statement.{statement}

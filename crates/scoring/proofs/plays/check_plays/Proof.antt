@@ -1,5 +1,5 @@
 -- The map, its attributes, then the plays behind it.
-use mathlib.Core.Path.{_≡_, _∙_, subst}
+use mathlib.Core.Path.{_∙_, subst}
 use denote.Ref.{now}
 use Rattle.rules.proofs.Laws.{so}
 use Rattle.map_reader.specs.Map.{MapReadOf}

@@ -1,5 +1,4 @@
 -- Both are the smaller of two numbers.
-use mathlib.Core.Path.{_≡_}
 use borrow.Author.Needs.{needs}
 use Rattle.scoring.proofs.plays.passes_as_many.Statement.{statement}
 use Rattle.scoring.proofs.plays.passes_as_many.Tie as tie

@@ -1,15 +1,12 @@
 -- The rest of the file is what the readers were given, and the mark chooses one of them.
-use mathlib.Core.Path.{_≡_, sym, ap, _∙_}
-use mathlib.Core.List.{List}
-use Prim.Native.Nat.{ℕ, _-_}
+use mathlib.Core.Path.{sym, _∙_}
+use Prim.Native.Nat.{_-_}
 use native.Mathlib.Omega.{arith}
 use denote.Ref.{now}
 use lib.ListN.{length, take, drop}
-use Rattle.numbers.specs.Words.{wordAt}
-use Rattle.records.specs.Records.{CI, SL, SP, objectOf}
+use Rattle.records.specs.Records.{CI, SL, SP}
 use Rattle.map_file.proofs.Steps.{rest-is}
-use Rattle.map_reader.specs.Objects.{steppedBy}
-use Rattle.map_reader.proofs.Running.{next-short, next-long, next-by, next-none, circle-at, slider-at, spinner-at}
+use Rattle.map_reader.proofs.Running.{next-short, next-by, next-none, circle-at, slider-at, spinner-at}
 use borrow.Author.Needs.{needs}
 use Rattle.map_reader.proofs.objects.Objects.with_next.Statement.{statement}
 use Rattle.map_reader.proofs.objects.Objects.with_next.Tie as tie

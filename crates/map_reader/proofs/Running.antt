@@ -204,21 +204,6 @@ small-ran (suc n) s x y k h e = go (λ z m l q. small-ran n s z y m l q) (nextOf
     go more step.Stop q (stop m) = let same : ran.To x ≡ ran.To y = ran-stop (suc n) s x (sym q) ∙ sym e in (let z : x ≡ y = cc in subst (Small s) z k)
     go more step.OverBonus q (over m) = let z : ran.To y ≡ ran.OverBonus (x .at) = e ∙ sym (ran-over (suc n) s x (omega arith) (sym q)) in never (cc)
 
--- a run of as many objects as a map can have is at its end
-pub ran-whole : (n : ℕ) (s : List ℕ) (x y : Objects) → countOf x + n ≡ maxObjects → ran.To y ≡ ranOf n s x → ran.To y ≡ ranOf (maxObjects - countOf y) s y
-unfolding ranOf
-ran-whole zero s x y h e = let same : x ≡ y = cc in let c = ap countOf same in ran-none (maxObjects - countOf y) s y (omega (arith, h, c))
-ran-whole (suc n) s x y h e = go (λ z m q. ran-whole n s z y m q) (nextOf s x) refl (answered s x)
-  where
-    go : ((z : Objects) → countOf z + n ≡ maxObjects → ran.To y ≡ ranOf n s z → ran.To y ≡ ranOf (maxObjects - countOf y) s y) → (a : Stepped) → nextOf s x ≡ a → Answered s x a
-        → ran.To y ≡ ranOf (maxObjects - countOf y) s y
-    go more (step.Next z) q (took t) = let count = took-count t in more z (omega (arith, h, count)) (e ∙ ran-next n s x z (sym q))
-    go more step.Stop q (stop m) =
-        let same : ran.To x ≡ ran.To y = ran-stop (suc n) s x (sym q) ∙ sym e in
-        let z : x ≡ y = cc in
-        ran-stop (maxObjects - countOf y) s y (subst (λ (i : Objects). step.Stop ≡ nextOf s i) z (sym q))
-    go more step.OverBonus q (over m) = let z : ran.To y ≡ ran.OverBonus (x .at) = e ∙ sym (ran-over (suc n) s x (omega arith) (sym q)) in never (cc)
-
 -- ---- the loop's invariant
 pub record Running (s : List ℕ) (limit : ℕ) (from x : Objects) : Type 0 where
   pub same : ranOf (limit - countOf from) s from ≡ ranOf (limit - countOf x) s x

@@ -217,12 +217,7 @@ fn read_objects(s: &[u8], settings: Settings, breaks: u64, passed: u64) -> MapRe
             number: refusal::BONUS,
             offset,
         },
-        Ran::To(state) => {
-            if passed < HitObject::MAX_COUNT {
-                return read_rest(s, settings, breaks, state);
-            }
-            map_to(s, settings, breaks, state, state)
-        }
+        Ran::To(state) => read_rest(s, settings, breaks, state),
     }
 }
 

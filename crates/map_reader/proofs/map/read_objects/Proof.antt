@@ -4,8 +4,8 @@ use native.Mathlib.Omega.{arith}
 use denote.Ref.{now}
 use Rattle.rules.proofs.Laws.{so}
 use Rattle.map_reader.specs.Objects.{objectsAt, Small}
-use Rattle.map_reader.specs.Map.{objectsFrom, mapTo, restOf, thenRead}
-use Rattle.map_reader.proofs.Running.{small-start, small-ran, ran-whole}
+use Rattle.map_reader.specs.Map.{objectsFrom, restOf, thenRead}
+use Rattle.map_reader.proofs.Running.{small-start, small-ran}
 use Rattle.map_reader.proofs.Mapping.{ran-from}
 use borrow.Author.Needs.{needs}
 use Rattle.map_reader.proofs.map.read_objects.Statement.{statement}
@@ -34,54 +34,36 @@ enum-known-state c = search needs
 
 read-rest-requires : tie.Need-read-rest-requires
 read-rest-requires c κs =
-    let ran-at = c .before .before .before .before in
-    let new = ran-at .before in
+    let ran = c .before .before .before in
+    let new = ran .before in
     let from = new .before in
     let least = from .before in
     let start = least .before .before in
     let s = now (start .args .s) in
-    let e = so (c .before .before .state .given .1) (ran-at .run .ensures) ∙ ran-from s (start .args .breaks) (start .args .passed) _ _ _ (least .least .ensures) (from .objects-from .ensures) (new .new .ensures) in
+    let at = from .objects-from .ensures in
+    let e = so (c .before .state .given .1) (ran .run .ensures) ∙ ran-from s (start .args .breaks) (start .args .passed) _ _ _ (least .least .ensures) at (new .new .ensures) in
     (small-ran _ s (objectsAt (objectsFrom (start .args .breaks))) _ (small-start s (objectsFrom (start .args .breaks)) (start .pre .1)) (omega arith) e, start .pre .0)
 
 returns : tie.Need-returns
 returns c =
-    let ran-at = c .before .before .before .before .before in
-    let new = ran-at .before in
+    let ran = c .before .before .before in
+    let new = ran .before in
     let from = new .before in
     let least = from .before in
     let start = least .before .before in
     let s = now (start .args .s) in
-    c .read-rest .ensures ∙ ap (thenRead (restOf s (start .args .settings) (start .args .breaks))) (so (c .before .before .before .state .given .1) (ran-at .run .ensures) ∙ ran-from s (start .args .breaks) (start .args .passed) _ _ _ (least .least .ensures) (from .objects-from .ensures) (new .new .ensures))
-
-map-to-requires : tie.Need-map-to-requires
-map-to-requires c κs = search needs
+    ap (thenRead (restOf s (start .args .settings) (start .args .breaks))) (so (c .before .offset .given .1) (ran .run .ensures) ∙ ran-from s (start .args .breaks) (start .args .passed) _ _ _ (least .least .ensures) (from .objects-from .ensures) (new .new .ensures))
 
 returns-2 : tie.Need-returns-2
 returns-2 c =
-    let ran-at = c .before .before .before in
-    let new = ran-at .before in
+    let ran = c .before .before .before .before in
+    let new = ran .before in
     let from = new .before in
     let least = from .before in
     let start = least .before .before in
     let s = now (start .args .s) in
-    ap (thenRead (restOf s (start .args .settings) (start .args .breaks))) (so (c .before .offset .given .1) (ran-at .run .ensures) ∙ ran-from s (start .args .breaks) (start .args .passed) _ _ _ (least .least .ensures) (from .objects-from .ensures) (new .new .ensures))
-
--- all objects are passed: nothing is left to run over
-returns-3 : tie.Need-returns-3
-returns-3 c =
-    let ran-at = c .before .before .before .before .before in
-    let new = ran-at .before in
-    let from = new .before in
-    let least = from .before in
-    let start = least .before .before in
-    let s = now (start .args .s) in
-    let state = c .before .before .before .state .given .0 .0 in
-    let e = so (c .before .before .before .state .given .1) (ran-at .run .ensures) ∙ ran-from s (start .args .breaks) (start .args .passed) _ _ _ (least .least .ensures) (from .objects-from .ensures) (new .new .ensures) in
-    let all = c .before .if1 .left in
-    let whole = ran-whole _ s (objectsAt (objectsFrom (start .args .breaks))) state (omega (arith, all)) e in
-    c .map-to .ensures
-    ∙ ap (thenRead (mapTo s (start .args .settings) (start .args .breaks) state)) whole
-    ∙ ap (thenRead (restOf s (start .args .settings) (start .args .breaks))) e
+    c .read-rest .ensures
+    ∙ ap (thenRead (restOf s (start .args .settings) (start .args .breaks))) (so (c .before .before .state .given .1) (ran .run .ensures) ∙ ran-from s (start .args .breaks) (start .args .passed) _ _ _ (least .least .ensures) (from .objects-from .ensures) (new .new .ensures))
 
 pub read-objects-spec : {M : Type 1} → statement M
 read-objects-spec =
@@ -95,6 +77,4 @@ read-objects-spec =
     enum-known-state
     read-rest-requires
     returns
-    map-to-requires
-    returns-2
-    returns-3)
+    returns-2)

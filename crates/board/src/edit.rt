@@ -6,7 +6,7 @@ use crate::place::room_for;
 use entries::entry::Entry;
 use numbers::words::word_at;
 use records::hit_object::HitObject;
-use records::hit_object::read_object;
+use records::object_record::read_object;
 use records::record::Read;
 use records::record::Record;
 use rules::refusal;

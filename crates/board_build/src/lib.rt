@@ -8,6 +8,7 @@ use map_reader::map::Map;
 use map_reader::map::objects_from;
 use numbers::words::word_at;
 use records::hit_object;
+use records::object_record;
 use records::record::Read;
 use records::record::Record;
 use scoring::plays::Plays;
@@ -64,13 +65,13 @@ fn lay_object(
     ensures { λ x. ⌜ (x, now (board .exit), now (starts .exit)) ≡ readLaid cap place (recordRead (objectOf (now (r .entry)) mark)) (now (board .entry)) (now (starts .entry)) ⌝ }
 {
     if mark == hit_object::CI {
-        return lay_read(hit_object::read_circle(r), board, starts, cap, place);
+        return lay_read(object_record::read_circle(r), board, starts, cap, place);
     }
     if mark == hit_object::SL {
-        return lay_read(hit_object::read_slider(r), board, starts, cap, place);
+        return lay_read(object_record::read_slider(r), board, starts, cap, place);
     }
     if mark == hit_object::SP {
-        return lay_read(hit_object::read_spinner(r), board, starts, cap, place);
+        return lay_read(object_record::read_spinner(r), board, starts, cap, place);
     }
     0
 }

@@ -1,11 +1,12 @@
 // The next record of a map file, by all its checks: the order, the counts, the record itself and the bonus.
 use numbers::words::word_at;
-use records::beatmap;
 use records::beatmap::BreakPeriod;
 use records::beatmap::Settings;
 use records::hit_object;
 use records::hit_object::HitObject;
 use records::hit_object::HitObjectKind;
+use records::map_record;
+use records::object_record;
 use records::play_record;
 use records::record::Read;
 use records::record::Record;
@@ -104,15 +105,15 @@ fn read_body(r: &[u8], mark: u64) -> Read
     ensures { λ x. ⌜ x ≡ recordRead (bodyOf (now (r .entry)) mark) ⌝ }
 {
     if mark == MH {
-        return beatmap::read_header(r);
+        return map_record::read_header(r);
     }
     if mark == BR {
-        return beatmap::read_break(r);
+        return map_record::read_break(r);
     }
     if mark == PL {
         return play_record::read_play(r);
     }
-    hit_object::read_object(r, mark)
+    object_record::read_object(r, mark)
 }
 
 // The legacy bonus points of a record: a spinner's.

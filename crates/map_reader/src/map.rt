@@ -16,10 +16,10 @@ use map_file::file::read_record;
 use numbers::bits::f64_from_bits;
 use numbers::naturals::least;
 use numbers::words::word_at;
-use records::beatmap;
 use records::beatmap::BreakPeriod;
 use records::beatmap::Settings;
 use records::hit_object::HitObject;
+use records::map_record;
 use records::record::Read;
 use records::record::Record;
 use rules::refusal;
@@ -77,7 +77,7 @@ fn read_head(s: &[u8]) -> Head
     if word_at(s, 0, 2) != MH {
         return Head::Refused(refusal::MARK);
     }
-    match beatmap::read_header(s) {
+    match map_record::read_header(s) {
         Read::Refused(number) => Head::Refused(number),
         Read::Good(item, _) => match item {
             Record::Header(settings) => Head::Is(settings),
@@ -99,7 +99,7 @@ fn is_break(s: &[u8], at: usize) -> bool
     if word_at(r, 0, 2) != BR {
         return false;
     }
-    match beatmap::read_break(r) {
+    match map_record::read_break(r) {
         Read::Refused(_) => false,
         Read::Good(_, _) => true,
     }

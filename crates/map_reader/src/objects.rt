@@ -3,6 +3,7 @@ use numbers::words::word_at;
 use records::hit_object;
 use records::hit_object::HitObject;
 use records::hit_object::HitObjectKind;
+use records::object_record;
 use records::record::Read;
 use records::record::Record;
 use simulator::legacy_score::NestedScorePerObject;
@@ -51,7 +52,7 @@ impl Objects {
         requires { ⌜ Room self × (self .at + length (now r) < 2 ^ 64) ⌝ }
         ensures { λ x. ⌜ x ≡ steppedBy self (circleOf (now (r .entry))) ⌝ }
     {
-        let Read::Good(item, size) = hit_object::read_circle(r) else {
+        let Read::Good(item, size) = object_record::read_circle(r) else {
             return Stepped::Stop;
         };
         let Record::Object(object) = item else {
@@ -75,7 +76,7 @@ impl Objects {
         requires { ⌜ Room self × (self .at + length (now r) < 2 ^ 64) ⌝ }
         ensures { λ x. ⌜ x ≡ steppedBy self (sliderOf (now (r .entry))) ⌝ }
     {
-        let Read::Good(item, size) = hit_object::read_slider(r) else {
+        let Read::Good(item, size) = object_record::read_slider(r) else {
             return Stepped::Stop;
         };
         let Record::Object(object) = item else {
@@ -99,7 +100,7 @@ impl Objects {
         requires { ⌜ Room self × (self .at + length (now r) < 2 ^ 64) ⌝ }
         ensures { λ x. ⌜ x ≡ steppedBy self (spinnerOf (now (r .entry))) ⌝ }
     {
-        let Read::Good(item, size) = hit_object::read_spinner(r) else {
+        let Read::Good(item, size) = object_record::read_spinner(r) else {
             return Stepped::Stop;
         };
         let Record::Object(object) = item else {

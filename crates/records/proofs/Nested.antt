@@ -19,8 +19,8 @@ use Rattle.records.specs.declared.hit_object.Slider.{Slider}
 use Rattle.records.specs.declared.hit_object.HitObjectKind.the-variants.{Slider as SliderKind}
 use Rattle.records.specs.declared.record.Record.the-variants.{Object as ObjectRecord}
 use Rattle.records.specs.declared.record.Read.the-variants.{Good}
-use Rattle.records.specs.declared.hit_object.Nested.{Nested}
-use Rattle.records.specs.declared.hit_object.Nested.the-variants.{Counts, Wrong}
+use Rattle.records.specs.declared.object_record.Nested.{Nested}
+use Rattle.records.specs.declared.object_record.Nested.the-variants.{Counts, Wrong}
 
 -- what is left of a list, with r repeats and t ticks before it
 unfoldable pub counted : ℕ → ℕ → Checked (List Item) → Nested

@@ -5,8 +5,8 @@ use Rattle.rules.specs.Refusals.{_>>=_, _>>_, refuse_when_}
 use Rattle.records.specs.Records.{circleOf}
 use Rattle.rules.proofs.Laws.{so}
 use borrow.Author.Needs.{needs}
-use Rattle.records.proofs.hit_object.read_circle.Statement.{statement}
-use Rattle.records.proofs.hit_object.read_circle.Tie as tie
+use Rattle.records.proofs.object_record.read_circle.Statement.{statement}
+use Rattle.records.proofs.object_record.read_circle.Tie as tie
 
 returns : tie.Need-returns
 unfolding circleOf _>>=_ _>>_ refuse_when_

@@ -2,8 +2,8 @@
 use borrow.Author.Tests.{eq-eqb, ne-eqb}
 use Rattle.records.specs.Records.{objectOf}
 use borrow.Author.Needs.{needs}
-use Rattle.records.proofs.hit_object.read_object.Statement.{statement}
-use Rattle.records.proofs.hit_object.read_object.Tie as tie
+use Rattle.records.proofs.object_record.read_object.Statement.{statement}
+use Rattle.records.proofs.object_record.read_object.Tie as tie
 
 read-circle-requires : tie.Need-read-circle-requires
 read-circle-requires c κs = search needs

@@ -5,8 +5,8 @@ use Rattle.rules.specs.Refusals.{_>>=_, _>>_, refuse_when_}
 use Rattle.records.specs.Records.{spinnerOf}
 use Rattle.rules.proofs.Laws.{so}
 use borrow.Author.Needs.{needs}
-use Rattle.records.proofs.hit_object.read_spinner.Statement.{statement}
-use Rattle.records.proofs.hit_object.read_spinner.Tie as tie
+use Rattle.records.proofs.object_record.read_spinner.Statement.{statement}
+use Rattle.records.proofs.object_record.read_spinner.Tie as tie
 
 returns : tie.Need-returns
 unfolding spinnerOf _>>=_ _>>_ refuse_when_

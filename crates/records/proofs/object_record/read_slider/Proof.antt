@@ -3,7 +3,7 @@ use mathlib.Core.List.{List}
 use Prim.Native.Nat.{ℕ}
 use lib.ListN.{take, drop}
 use denote.Ref.{now}
-use Rattle.records.specs.declared.hit_object.Nested.the-variants.{Counts, Wrong}
+use Rattle.records.specs.declared.object_record.Nested.the-variants.{Counts, Wrong}
 use Rattle.records.proofs.Nested.{refused-list, read-list, part-is}
 use mathlib.Core.Path.{_≡_, sym, ap, _∙_}
 use borrow.Author.Tests.{lt-ltb, le-ltb}
@@ -11,8 +11,8 @@ use Rattle.rules.specs.Refusals.{_>>=_, _>>_, refuse_when_}
 use Rattle.records.specs.Records.{sliderOf, nestedOf, nestedView}
 use Rattle.rules.proofs.Laws.{so}
 use borrow.Author.Needs.{needs}
-use Rattle.records.proofs.hit_object.read_slider.Statement.{statement}
-use Rattle.records.proofs.hit_object.read_slider.Tie as tie
+use Rattle.records.proofs.object_record.read_slider.Statement.{statement}
+use Rattle.records.proofs.object_record.read_slider.Tie as tie
 
 returns : tie.Need-returns
 unfolding sliderOf _>>=_ _>>_ refuse_when_

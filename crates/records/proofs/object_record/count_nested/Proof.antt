@@ -8,10 +8,10 @@ use lib.Bits.{and-le-r}
 use lib.ListN.{length, getD}
 use denote.Ref.{now}
 use Rattle.records.specs.Records.{nestedOf}
-use Rattle.records.specs.declared.hit_object.Nested.the-variants.{Counts}
+use Rattle.records.specs.declared.object_record.Nested.the-variants.{Counts}
 use Rattle.records.proofs.Nested.{Passed, passed-none, passed-next, tail, no-tail}
-use Rattle.records.proofs.hit_object.count_nested.Statement.{statement}
-use Rattle.records.proofs.hit_object.count_nested.Tie as tie
+use Rattle.records.proofs.object_record.count_nested.Statement.{statement}
+use Rattle.records.proofs.object_record.count_nested.Tie as tie
 
 list-none : (l : List ℕ) → length l ≡ 0 → l ≡ []
 list-none [] e = refl

@@ -5,6 +5,7 @@ use oracle::{
     generate::{mixed::mixed_map, objects, random::Random},
     given::Factors,
     map::{MapFile, Object, ObjectKind, Play},
+    reader::{MAX_NESTED, MAX_OBJECTS},
 };
 
 pub const SIZES: [usize; 4] = [10, 100, 1_000, 8_192];
@@ -221,12 +222,45 @@ impl Turns {
     }
 }
 
+/// Plays that each passed another count of circles, all over the map. The file is as long as the program `list` takes.
+pub fn plays_of_different_counts() -> MapFile {
+    const OBJECTS: usize = 3_275;
+    const PLAYS: usize = 744;
+    // A step that has no divisor with the counts from 1 to all but one, so that none comes twice.
+    const STEP: usize = 1_237;
+    let r = &mut Random::new(6, PLAYS as u64);
+    let mut map = map_of(OBJECTS, |_| ObjectKind::Circle);
+    let combos = combos(&map);
+    let passed = (0..PLAYS).map(|place| 1 + place * STEP % (OBJECTS - 1));
+    map.plays = passed.map(|count| play(r, count, combos[count])).collect();
+    map
+}
+
+/// Plays that each passed all objects but the last, which are as many sliders as a map may have, and as long ones. They
+/// have no score, since rule 10 would refuse it behind such a combo.
+pub fn plays_of_all_but_the_last() -> MapFile {
+    const PLAYS: usize = 400;
+    let r = &mut Random::new(6, PLAYS as u64);
+    let mut map = map_of(MAX_OBJECTS, |r| objects::slider(r, MAX_NESTED));
+    let passed = MAX_OBJECTS - 1;
+    let combo = combos(&map)[passed];
+    let plays = (0..PLAYS).map(|_| Play {
+        score: None,
+        ..play(r, passed, combo)
+    });
+    map.plays = plays.collect();
+    map
+}
+
 /// A file for the speed of reading.
 pub struct File {
     pub name: &'static str,
     pub objects: usize,
     pub bytes: Vec<u8>,
 }
+
+/// The files in which nearly all bytes are nested items.
+pub const LONG_SLIDERS: &str = "sliders of 200 nested items";
 
 /// A file of about 60 KB and one of as many objects as a map may have, of each kind.
 pub fn files() -> Vec<File> {
@@ -239,7 +273,7 @@ pub fn files() -> Vec<File> {
     let kinds = [
         ("circles", 6_000, circles),
         ("mixed objects", 4_760, mixed),
-        ("sliders of 200 nested items", 283, long),
+        (LONG_SLIDERS, 283, long),
     ];
     let file = |(name, size, map): (&'static str, usize, fn(usize) -> MapFile)| {
         [size, 8_192].map(|size| File {
@@ -260,5 +294,25 @@ fn map_of(size: usize, kind: fn(&mut Random) -> ObjectKind) -> MapFile {
     MapFile {
         objects: (0..size).map(object).collect(),
         ..MapFile::default()
+    }
+}
+
+#[cfg(test)]
+mod tests {
+    use std::collections::HashSet;
+
+    use super::*;
+
+    #[test]
+    fn the_plays_of_a_file_passed_what_they_should() {
+        let map = plays_of_different_counts();
+        let counts: HashSet<u16> = map.plays.iter().map(|play| play.passed).collect();
+        assert_eq!((map.objects.len(), counts.len()), (3_275, 744));
+        assert!(counts.iter().all(|count| (1..3_275).contains(count)));
+        assert_eq!(encode(&map).len(), 65_500);
+        let map = plays_of_all_but_the_last();
+        assert_eq!((map.objects.len(), map.plays.len()), (8_192, 400));
+        assert!(map.plays.iter().all(|play| play.passed == 8_191));
+        assert_eq!(encode(&map).len(), 8_307_918);
     }
 }

@@ -27,6 +27,8 @@ pub struct Counts {
     /// Of a play with slider breaks, without factors and with them.
     pub alone: f64,
     pub with_factors: f64,
+    /// Of the file with its play that passes all objects.
+    pub score_map: f64,
 }
 
 /// What is counted: its name as a subcommand, the function in which callgrind counts, and how many calls are made.
@@ -43,6 +45,7 @@ const PLAIN_EDIT: Counted = Counted::new("plain-edit", "bench_plain_edit", VARIE
 const WALK: Counted = Counted::new("walk", "bench_walk", 4);
 const ALONE: Counted = Counted::new("read-alone", "pjp_read", VARIED);
 const WITH_FACTORS: Counted = Counted::new("read-breaks", "pjp_read_breaks", VARIED);
+const SCORE_MAP: Counted = Counted::new("score-map", "pjp_score_map", 4);
 
 impl Counted {
     const fn new(name: &'static str, function: &'static str, calls: usize) -> Self {
@@ -89,6 +92,7 @@ pub fn measure(size: usize) -> Result<Counts, String> {
         walk: WALK.count(size)?,
         alone: ALONE.count(size)?,
         with_factors: WITH_FACTORS.count(size)?,
+        score_map: SCORE_MAP.count(size)?,
     })
 }
 
@@ -122,6 +126,8 @@ pub fn run(name: &str, size: usize) -> Result<(), String> {
         for play in case.all_passed.iter().take(WALK.calls) {
             black_box(&one_walk(&original, play));
         }
+    } else if is(SCORE_MAP) {
+        good &= (0..SCORE_MAP.calls).all(|_| proved::score_map(&case.file).status == 0);
     } else {
         return Err(format!("nothing is counted as {name}"));
     }
@@ -170,6 +176,7 @@ mod tests {
             WALK,
             ALONE,
             WITH_FACTORS,
+            SCORE_MAP,
         ] {
             assert_eq!(run(counted.name, 10), Ok(()));
         }

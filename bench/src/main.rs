@@ -11,11 +11,13 @@ mod answer;
 mod asked;
 mod boards;
 mod cases;
+mod figure;
 mod instructions;
 mod lent;
 mod machine;
 mod measure;
 mod number;
+mod own_plays;
 mod page;
 mod plain;
 mod plot;
@@ -27,15 +29,16 @@ mod table;
 
 use std::{env, fs, path::Path, process::ExitCode};
 
-use measure::Samples;
+use machine::Machine;
+use measure::Series;
 
 fn main() -> ExitCode {
     let arguments: Vec<String> = env::args().skip(1).collect();
     let arguments: Vec<&str> = arguments.iter().map(String::as_str).collect();
     let done = match arguments[..] {
-        [] => run(Samples::FULL, &cases::SIZES, false),
-        ["--write"] => run(Samples::FULL, &cases::SIZES, true),
-        ["--quick"] => run(Samples::QUICK, &cases::SIZES[..1], false),
+        [] => run(Series::FULL, &cases::SIZES, false),
+        ["--write"] => run(Series::FULL, &cases::SIZES, true),
+        ["--quick"] => run(Series::QUICK, &cases::SIZES[..1], false),
         ["count", name, size] => count(name, size),
         _ => Err("usage: bench [--write | --quick | count NAME SIZE]".to_owned()),
     };
@@ -49,10 +52,10 @@ fn main() -> ExitCode {
 }
 
 /// Measures all, with instructions at the sizes that are named.
-fn run(samples: Samples, counted: &[usize], is_written: bool) -> Result<(), String> {
-    let machine = machine::describe();
-    let results = results::measure(samples, counted);
-    let page = page::page(&results, samples, &machine);
+fn run(series: Series, counted: &[usize], is_written: bool) -> Result<(), String> {
+    let machine = Machine::now();
+    let results = results::measure(series, counted);
+    let page = page::page(&results, series, &machine, machine.taken());
     let plot = plot::plot(&results);
     print!("{page}");
     if is_written {

@@ -2,15 +2,34 @@
 
 use std::time::Instant;
 
+/// How often all is measured, and of how many samples a round takes its medians.
+#[derive(Clone, Copy)]
+pub struct Series {
+    pub rounds: usize,
+    pub samples: Samples,
+    /// Of calls that go through megabytes.
+    pub few: Samples,
+}
+
+impl Series {
+    pub const FULL: Self = Self {
+        rounds: 5,
+        samples: Samples(301),
+        few: Samples(5),
+    };
+    /// Shows that all runs; its times say little.
+    pub const QUICK: Self = Self {
+        rounds: 2,
+        samples: Samples(3),
+        few: Samples(1),
+    };
+}
+
 /// How many samples a median is taken of.
 #[derive(Clone, Copy)]
 pub struct Samples(usize);
 
 impl Samples {
-    pub const FULL: Self = Self(301);
-    /// Shows that all runs; its times say little.
-    pub const QUICK: Self = Self(3);
-
     pub fn count(self) -> usize {
         self.0
     }

@@ -14,9 +14,27 @@ pub fn significant(value: f64) -> String {
     }
 }
 
+/// The same with as many more digits as it takes to be judged as the value itself is: 499.9 does not meet a bar of 500,
+/// and does not read as 500.
+pub fn judged(value: f64, is_met: impl Fn(f64) -> bool) -> String {
+    let short = significant(value);
+    let is_as_judged = |text: &str| {
+        let shown = text.replace(',', "").parse();
+        shown.is_ok_and(|shown| is_met(shown) == is_met(value))
+    };
+    let longer = (1..=9).map(|decimals| grouped(&format!("{value:.decimals$}")));
+    let mut texts = [short.clone()].into_iter().chain(longer);
+    texts.find(|text| is_as_judged(text)).unwrap_or(short)
+}
+
 /// A whole number in groups of three digits.
 pub fn whole(value: u64) -> String {
-    let digits = value.to_string();
+    grouped(&value.to_string())
+}
+
+/// Digits before a point, if there is one, in groups of three.
+fn grouped(number: &str) -> String {
+    let (digits, rest) = number.split_at(number.find('.').unwrap_or(number.len()));
     let mut text = String::new();
     for (place, digit) in digits.chars().enumerate() {
         if place > 0 && (digits.len() - place).is_multiple_of(3) {
@@ -24,7 +42,7 @@ pub fn whole(value: u64) -> String {
         }
         text.push(digit);
     }
-    text
+    text + rest
 }
 
 /// A time that is given in nanoseconds.
@@ -57,6 +75,28 @@ mod tests {
         ];
         for (value, text) in cases {
             assert_eq!(significant(value), text);
+        }
+    }
+
+    #[test]
+    fn a_figure_reads_as_it_is_judged() {
+        let least = [
+            (499.94, 500.0, "499.9"),
+            (500.0, 500.0, "500"),
+            (500.2, 500.0, "500"),
+            (1_999.97, 2_000.0, "1,999.97"),
+        ];
+        for (value, bar, text) in least {
+            assert_eq!(judged(value, |shown| shown >= bar), text);
+        }
+        let most = [
+            (1.0032, 1.0, "1.003"),
+            (0.99999, 1.0, "1.00"),
+            (0.34004, 0.34, "0.34004"),
+            (0.278, 0.34, "0.278"),
+        ];
+        for (value, bar, text) in most {
+            assert_eq!(judged(value, |shown| shown <= bar), text);
         }
     }
 

@@ -7,9 +7,10 @@ use crate::{
     cases::SIZES,
     number::{time, whole},
     results::Results,
+    scores::ScoreTimes,
 };
 
-const WIDTH: f64 = 960.0;
+const WIDTH: f64 = 980.0;
 const HEIGHT: f64 = 580.0;
 
 // The area of the lines; the labels stand to its right.
@@ -32,6 +33,7 @@ const RUST: &str = "#3a3a3a";
 enum Marker {
     Square,
     Triangle,
+    Down,
     Circle,
     Diamond,
 }
@@ -56,30 +58,39 @@ pub fn plot(results: &Results) -> String {
 }
 
 fn lines(results: &Results) -> Vec<Line> {
-    let line = |label, color, marker, value: fn(&BoardTimes) -> f64| Line {
+    let boards = results.rows(|round| &round.boards);
+    let scores = results.rows(|round| &round.scores);
+    let line = |label, color, marker, times: Vec<f64>| Line {
         label,
         color,
         is_dashed: color == PLAIN,
         marker,
-        times: results.boards.iter().map(value).collect(),
+        times,
     };
-    let score = Line {
-        times: results.scores.iter().map(|row| row.ours).collect(),
-        ..line("our score of a file's play", OURS, Marker::Diamond, |_| 0.0)
+    let board = |label, color, marker, value: fn(&BoardTimes) -> f64| {
+        let times = boards.iter().map(|row| row.median(value));
+        line(label, color, marker, times.collect())
+    };
+    let score = |label, color, value: fn(&ScoreTimes) -> f64| {
+        let times = scores.iter().map(|row| row.median(value));
+        line(label, color, Marker::Diamond, times.collect())
     };
     vec![
-        line("our build", OURS, Marker::Square, |row| row.build.ours),
-        line("plain Rust's build", PLAIN, Marker::Square, |row| {
+        board("our build", OURS, Marker::Square, |row| row.build.ours),
+        board("plain Rust's build", PLAIN, Marker::Square, |row| {
             row.build.plain
         }),
-        line("the Rust's walk", RUST, Marker::Diamond, |row| row.walk),
-        score,
-        line("our edit", OURS, Marker::Triangle, |row| row.edit.ours),
-        line("plain Rust's edit", PLAIN, Marker::Triangle, |row| {
+        board("the Rust's walk, edited map", RUST, Marker::Down, |row| {
+            row.walk
+        }),
+        score("the Rust's walk, file's map", RUST, |row| row.rust),
+        score("our score of a file's play", OURS, |row| row.ours),
+        board("our edit", OURS, Marker::Triangle, |row| row.edit.ours),
+        board("plain Rust's edit", PLAIN, Marker::Triangle, |row| {
             row.edit.plain
         }),
-        line("our read", OURS, Marker::Circle, |row| row.read_spread.ours),
-        line("plain Rust's read", PLAIN, Marker::Circle, |row| {
+        board("our read", OURS, Marker::Circle, |row| row.read_spread.ours),
+        board("plain Rust's read", PLAIN, Marker::Circle, |row| {
             row.read_spread.plain
         }),
     ]
@@ -213,6 +224,7 @@ fn mark(line: &Line, x: f64, y: f64) -> String {
         Marker::Circle => return format!("<circle cx=\"{x:.1}\" cy=\"{y:.1}\" r=\"4\" {look}/>\n"),
         Marker::Square => &[(-3.5, -3.5), (3.5, -3.5), (3.5, 3.5), (-3.5, 3.5)],
         Marker::Triangle => &[(0.0, -5.0), (4.5, 3.5), (-4.5, 3.5)],
+        Marker::Down => &[(0.0, 5.0), (4.5, -3.5), (-4.5, -3.5)],
         Marker::Diamond => &[(0.0, -5.0), (5.0, 0.0), (0.0, 5.0), (-5.0, 0.0)],
     };
     let corner = |(across, down)| format!("{:.1},{:.1}", x + across, y + down);

@@ -15,6 +15,13 @@ pub struct ReadingTimes {
     pub plain: f64,
 }
 
+impl ReadingTimes {
+    /// Gigabytes in a second, which are bytes in a nanosecond.
+    pub fn speed(&self, time: f64) -> f64 {
+        self.bytes as f64 / time
+    }
+}
+
 pub fn measure(file: &File, samples: Samples) -> ReadingTimes {
     let bytes = &file.bytes;
     let answer = proved::score_map(bytes);

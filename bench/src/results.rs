@@ -1,27 +1,76 @@
-//! All that one run measures.
+//! All that a series measures.
 
 use crate::{
     boards::{self, BoardTimes},
     cases::{self, Case, SIZES},
+    figure::Figure,
     instructions::{self, Counts},
-    measure::Samples,
+    measure::Series,
+    own_plays::{self, OwnPlays, OwnTimes},
     reading::{self, ReadingTimes},
     scores::{self, ScoreTimes},
 };
 
 pub struct Results {
+    pub rounds: Vec<Round>,
+    /// Or why there are none. No round changes them.
+    pub counts: Result<Vec<Counts>, String>,
+}
+
+/// What one round measures. Each round has the same rows.
+pub struct Round {
     /// Of one file at each size.
     pub scores: Vec<ScoreTimes>,
     /// Of different files at each size.
     pub different: Vec<ScoreTimes>,
     pub boards: Vec<BoardTimes>,
     pub readings: Vec<ReadingTimes>,
-    /// Or why there are none.
-    pub counts: Result<Vec<Counts>, String>,
+    pub own_plays: Vec<OwnTimes>,
+}
+
+/// The same row in each round.
+pub struct Row<'r, T>(Vec<&'r T>);
+
+impl<T> Row<'_, T> {
+    /// What is the same in all rounds can be taken from any.
+    pub fn any(&self) -> &T {
+        self.0[0]
+    }
+
+    pub fn figure(&self, value: impl Fn(&T) -> f64) -> Figure {
+        self.0.iter().map(|row| value(row)).collect()
+    }
+
+    pub fn median(&self, value: impl Fn(&T) -> f64) -> f64 {
+        self.figure(value).median()
+    }
+}
+
+impl Results {
+    pub fn rows<T>(&self, of: impl Fn(&Round) -> &[T]) -> Vec<Row<'_, T>> {
+        let row = |place| Row(self.rounds.iter().map(|round| &of(round)[place]).collect());
+        (0..of(&self.rounds[0]).len()).map(row).collect()
+    }
+
+    /// A figure that takes more than one row of a round.
+    pub fn figure(&self, value: impl Fn(&Round) -> f64) -> Figure {
+        self.rounds.iter().map(value).collect()
+    }
 }
 
 /// Instructions are counted at each of the sizes that are named.
-pub fn measure(samples: Samples, counted: &[usize]) -> Results {
+pub fn measure(series: Series, counted: &[usize]) -> Results {
+    let own_plays = own_plays::files();
+    Results {
+        rounds: (0..series.rounds)
+            .map(|_| round(series, &own_plays))
+            .collect(),
+        counts: counted.iter().copied().map(instructions::measure).collect(),
+    }
+}
+
+fn round(series: Series, own_plays: &[OwnPlays]) -> Round {
+    let samples = series.samples;
     let mut scores = Vec::new();
     let mut different = Vec::new();
     let mut boards = Vec::new();
@@ -32,7 +81,7 @@ pub fn measure(samples: Samples, counted: &[usize]) -> Results {
         boards.push(boards::measure(&case, samples));
     }
     let files = cases::files();
-    Results {
+    Round {
         scores,
         different,
         boards,
@@ -40,20 +89,40 @@ pub fn measure(samples: Samples, counted: &[usize]) -> Results {
             .iter()
             .map(|file| reading::measure(file, samples))
             .collect(),
-        counts: counted.iter().copied().map(instructions::measure).collect(),
+        own_plays: own_plays.iter().map(|file| file.measure(series)).collect(),
     }
 }
 
-/// Times as they may be, at each size.
+/// Times as they may be, in three rounds: ours are the middle ones in the last round.
 #[cfg(test)]
 pub fn example() -> Results {
+    let count = |size| Counts {
+        size,
+        read: 1_800.0,
+        plain_read: 1_800.0,
+        edit: 3_000.0,
+        plain_edit: 2_000.0,
+        walk: 200.0 * size as f64,
+        alone: 1_800.0,
+        with_factors: 2_000.0,
+        score_map: 1_850.0 + 60.0 * size as f64,
+    };
+    Results {
+        rounds: [0.5, 2.0, 1.0].map(example_round).into(),
+        counts: Ok(SIZES.map(count).into()),
+    }
+}
+
+/// Our times are as many times those of the round of 1.
+#[cfg(test)]
+fn example_round(times: f64) -> Round {
     let pair = |ours| boards::Pair {
-        ours,
+        ours: times * ours,
         plain: 0.9 * ours,
     };
-    let factors = |ours, times| boards::FactorTimes {
+    let factors = |ours, with| boards::FactorTimes {
         alone: pair(ours),
-        with: pair(times * ours),
+        with: pair(with * ours),
     };
     let board = |(size, part): (usize, f64)| BoardTimes {
         size,
@@ -64,23 +133,62 @@ pub fn example() -> Results {
         read_nearly: pair(500.0),
         factors_all: factors(140.0, 1.5),
         factors_spread: factors(200.0, 1.25),
-        read_map: 350_000.0 * part,
-        score_map: 55_000.0 * part,
+        read_map: (52_000.0 * part + 1_000.0) * times,
+        score_map: 50_000.0 * times * part,
         walk: 450_000.0 * part,
     };
-    let score = |(size, part): (usize, f64)| ScoreTimes {
-        size,
-        files: 1,
-        bytes: 13 * size,
-        ours: 55_555.5 * part,
-        rust: 200_000.0 * part,
+    let score = |files: usize, ours: f64| {
+        move |(size, part): (usize, f64)| ScoreTimes {
+            size,
+            files,
+            bytes: 13 * size,
+            ours: ours * times * part,
+            rust: 200_000.0 * part,
+        }
+    };
+    let reading = |name, objects| ReadingTimes {
+        name,
+        objects,
+        bytes: 200 * objects,
+        score_map: 20.0 * times * objects as f64,
+        read_map: 25.0 * times * objects as f64,
+        plain: 15.0 * objects as f64,
+    };
+    let own_plays = |name, objects, score_map, build| OwnTimes {
+        name,
+        objects,
+        plays: 100,
+        bytes: 10 * objects,
+        score_map: score_map * times,
+        build: build * times,
     };
     let parts = SIZES.map(|size| (size, size as f64 / 8_192.0));
-    Results {
-        scores: parts.map(score).to_vec(),
-        different: Vec::new(),
-        boards: parts.map(board).to_vec(),
-        readings: Vec::new(),
-        counts: Ok(Vec::new()),
+    Round {
+        scores: parts.map(score(1, 55_555.5)).into(),
+        different: parts.map(score(33, 70_000.0)).into(),
+        boards: parts.map(board).into(),
+        readings: vec![reading("circles", 6_000), reading(cases::LONG_SLIDERS, 283)],
+        own_plays: vec![
+            own_plays("circles", 3_275, 4e5, 6e5),
+            own_plays("sliders", 8_192, 3e7, 2e7),
+        ],
+    }
+}
+
+#[cfg(test)]
+mod tests {
+    use super::*;
+
+    #[test]
+    fn a_ratio_is_the_median_of_the_rounds_ratios() {
+        let results = example();
+        let rows = results.rows(|round| &round.boards);
+        assert_eq!(rows.len(), SIZES.len());
+        assert_eq!(rows[3].any().size, 8_192);
+        let figure = rows[3].figure(|board| board.walk / board.read_all.ours);
+        assert_eq!(
+            (figure.median(), figure.range()),
+            (3_000.0, Some((1_500.0, 6_000.0)))
+        );
     }
 }

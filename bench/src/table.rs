@@ -4,8 +4,9 @@ use crate::{
     boards::{BoardTimes, FactorTimes, Pair},
     instructions::Counts,
     number::{significant, time, whole},
+    own_plays::OwnTimes,
     reading::ReadingTimes,
-    results::Results,
+    results::{Results, Row},
     scores::ScoreTimes,
 };
 
@@ -26,17 +27,19 @@ fn line<T: AsRef<str>>(cells: &[T]) -> String {
 }
 
 pub fn scores(results: &Results) -> String {
-    let row = |row: &ScoreTimes| {
+    let row = |row: Row<ScoreTimes>| {
         vec![
-            whole(row.size as u64),
-            whole(row.files as u64),
-            whole(row.bytes as u64),
-            time(row.ours),
-            time(row.rust),
-            significant(row.ours / row.rust),
-            time(row.ours / row.size as f64),
+            whole(row.any().size as u64),
+            whole(row.any().files as u64),
+            whole(row.any().bytes as u64),
+            time(row.median(|times| times.ours)),
+            time(row.median(|times| times.rust)),
+            significant(row.median(|times| times.ours / times.rust)),
+            time(row.median(|times| times.ours / times.size as f64)),
         ]
     };
+    let one = results.rows(|round| &round.scores);
+    let different = results.rows(|round| &round.different);
     markdown(
         0,
         &[
@@ -48,12 +51,7 @@ pub fn scores(results: &Results) -> String {
             "ours / the Rust",
             "ours, an object",
         ],
-        results
-            .scores
-            .iter()
-            .chain(&results.different)
-            .map(row)
-            .collect(),
+        one.into_iter().chain(different).map(row).collect(),
     )
 }
 
@@ -68,20 +66,21 @@ const BOARD_CALLS: [BoardCall; 5] = [
     ("read, nearly all passed", |row| row.read_nearly),
 ];
 
-pub fn boards(rows: &[BoardTimes]) -> String {
-    let row = |name: &str, pair: Pair, row: &BoardTimes| {
+pub fn boards(results: &Results) -> String {
+    let row = |(name, pair): BoardCall, row: &Row<BoardTimes>| {
+        let ratio = |Pair { ours, plain }| ours / plain;
         vec![
             name.to_owned(),
-            whole(row.size as u64),
-            time(pair.ours),
-            time(pair.plain),
-            significant(pair.ours / pair.plain),
-            time(row.walk),
-            significant(row.walk / pair.ours),
+            whole(row.any().size as u64),
+            time(row.median(|times| pair(times).ours)),
+            time(row.median(|times| pair(times).plain)),
+            significant(row.median(|times| ratio(pair(times)))),
+            time(row.median(|times| times.walk)),
+            significant(row.median(|times| times.walk / pair(times).ours)),
         ]
     };
-    let call =
-        |(name, pair): BoardCall| rows.iter().map(move |times| row(name, pair(times), times));
+    let sizes = &results.rows(|round| &round.boards);
+    let call = |call: BoardCall| sizes.iter().map(move |size| row(call, size));
     markdown(
         1,
         &[
@@ -105,24 +104,22 @@ const FACTOR_READS: [FactorRead; 2] = [
     ("spread", |row| row.factors_spread),
 ];
 
-pub fn factor_reads(rows: &[BoardTimes]) -> String {
-    let row = |name: &str, size: usize, times: FactorTimes| {
-        let FactorTimes { alone, with } = times;
+pub fn factor_reads(results: &Results) -> String {
+    let row = |(name, reads): FactorRead, row: &Row<BoardTimes>| {
+        let median = |value: fn(FactorTimes) -> f64| row.median(|times| value(reads(times)));
         vec![
             name.to_owned(),
-            whole(size as u64),
-            time(alone.ours),
-            time(with.ours),
-            significant(with.ours / alone.ours),
-            time(alone.plain),
-            time(with.plain),
-            significant(with.plain / alone.plain),
+            whole(row.any().size as u64),
+            time(median(|reads| reads.alone.ours)),
+            time(median(|reads| reads.with.ours)),
+            significant(median(|reads| reads.with.ours / reads.alone.ours)),
+            time(median(|reads| reads.alone.plain)),
+            time(median(|reads| reads.with.plain)),
+            significant(median(|reads| reads.with.plain / reads.alone.plain)),
         ]
     };
-    let kind = |(name, times): FactorRead| {
-        rows.iter()
-            .map(move |board| row(name, board.size, times(board)))
-    };
+    let sizes = &results.rows(|round| &round.boards);
+    let kind = |kind: FactorRead| sizes.iter().map(move |size| row(kind, size));
     markdown(
         1,
         &[
@@ -139,43 +136,65 @@ pub fn factor_reads(rows: &[BoardTimes]) -> String {
     )
 }
 
-pub fn builds(rows: &[BoardTimes]) -> String {
-    let row = |row: &BoardTimes| {
+pub fn files(results: &Results) -> String {
+    let row = |row: Row<BoardTimes>| {
         vec![
-            whole(row.size as u64),
-            time(row.build.ours),
-            time(row.read_map),
-            significant(row.build.ours / row.read_map),
-            time(row.score_map),
-            significant(row.build.ours / row.score_map),
+            whole(row.any().size as u64),
+            time(row.median(|times| times.score_map)),
+            time(row.median(|times| times.read_map)),
+            significant(row.median(|times| times.read_map / times.score_map)),
+            time(row.median(|times| times.build.ours)),
         ]
     };
     markdown(
         0,
         &[
             "objects",
-            "build",
-            "`pjp_read_map`",
-            "build / `read_map`",
             "`pjp_score_map`",
-            "build / `score_map`",
+            "`pjp_read_map`",
+            "`read_map` / `score_map`",
+            "`pjp_build`",
         ],
-        rows.iter().map(row).collect(),
+        rows(results.rows(|round| &round.boards), row),
     )
 }
 
-pub fn readings(rows: &[ReadingTimes]) -> String {
-    let row = |row: &ReadingTimes| {
-        // Bytes in a nanosecond are gigabytes in a second.
-        let speed = |time: f64| significant(row.bytes as f64 / time);
+pub fn own_plays(results: &Results) -> String {
+    let row = |row: Row<OwnTimes>| {
         vec![
-            row.name.to_owned(),
-            whole(row.objects as u64),
-            whole(row.bytes as u64),
-            speed(row.score_map),
-            speed(row.read_map),
-            speed(row.plain),
-            significant(row.plain / row.score_map),
+            row.any().name.to_owned(),
+            whole(row.any().objects as u64),
+            whole(row.any().plays as u64),
+            whole(row.any().bytes as u64),
+            time(row.median(|times| times.score_map)),
+            time(row.median(|times| times.build)),
+        ]
+    };
+    markdown(
+        1,
+        &[
+            "file of",
+            "objects",
+            "plays",
+            "bytes",
+            "`pjp_score_map`",
+            "`pjp_build`",
+        ],
+        rows(results.rows(|round| &round.own_plays), row),
+    )
+}
+
+pub fn readings(results: &Results) -> String {
+    let row = |row: Row<ReadingTimes>| {
+        let speed = |value: fn(&ReadingTimes) -> f64| significant(row.median(value));
+        vec![
+            row.any().name.to_owned(),
+            whole(row.any().objects as u64),
+            whole(row.any().bytes as u64),
+            speed(|times| times.speed(times.score_map)),
+            speed(|times| times.speed(times.read_map)),
+            speed(|times| times.speed(times.plain)),
+            significant(row.median(|times| times.plain / times.score_map)),
         ]
     };
     markdown(
@@ -189,8 +208,12 @@ pub fn readings(rows: &[ReadingTimes]) -> String {
             "plain Rust, GB/s",
             "`score_map` / plain",
         ],
-        rows.iter().map(row).collect(),
+        rows(results.rows(|round| &round.readings), row),
     )
+}
+
+fn rows<T>(rows: Vec<Row<T>>, row: impl Fn(Row<T>) -> Vec<String>) -> Vec<Vec<String>> {
+    rows.into_iter().map(row).collect()
 }
 
 pub fn counts(counts: &Result<Vec<Counts>, String>) -> String {
@@ -229,6 +252,18 @@ pub fn factor_counts(counts: &Result<Vec<Counts>, String>) -> String {
         ]
     };
     let head = ["objects", "our read", "with factors", "with / without"];
+    counted(&head, counts, row)
+}
+
+pub fn file_counts(counts: &Result<Vec<Counts>, String>) -> String {
+    let row = |row: &Counts| {
+        vec![
+            whole(row.size as u64),
+            significant(row.score_map),
+            significant(row.score_map / row.size as f64),
+        ]
+    };
+    let head = ["objects", "`pjp_score_map`", "an object"];
     counted(&head, counts, row)
 }
 

@@ -18,7 +18,7 @@ const LETTER: f64 = 8.2;
 fn no_text_is_clipped() {
     let svg = plot(&results());
     assert!(is_well_formed(&svg), "{svg}");
-    assert_eq!(svg.matches("<polyline").count(), 8);
+    assert_eq!(svg.matches("<polyline").count(), 9);
     let mut labels = 0;
     for text in svg.split("<text x=\"").skip(1) {
         let (x, rest) = text.split_once('"').expect("a number in quotes");
@@ -29,7 +29,7 @@ fn no_text_is_clipped() {
             labels += 1;
         }
     }
-    assert_eq!(labels, 10);
+    assert_eq!(labels, 11);
 }
 
 fn example() -> String {

@@ -25,7 +25,7 @@ use Rattle.entries.proofs.Accepted.{entry-within, object-bonus}
 use Rattle.entries.proofs.Runs.{entry-own}
 use Rattle.entries.specs.declared.entry.Entry.{Entry}
 use Rattle.tree.specs.Size.{levelsOf, capOf}
-use Rattle.tree.specs.declared.Size.{Size}
+use Rattle.tree.specs.declared.size.Size.{Size}
 use Rattle.board.specs.Place.{roomFor, Holds, putPlace, putLeft, writtenOf, writtenLeft}
 use Rattle.board.specs.Edit.{objectOnly, objectIn, aloneOf, editOf}
 use Rattle.board.specs.declared.edit.Alone.the-variants as alone

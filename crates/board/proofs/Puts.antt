@@ -8,9 +8,9 @@ use Rattle.rules.specs.Refusals.{Checked, good, refused, _>>=_}
 use Rattle.rules.proofs.Laws.{never}
 use Rattle.entries.specs.declared.entry.Entry.{Entry}
 use Rattle.tree.specs.Put.{climbed, putOf, orElse}
-use Rattle.tree.specs.declared.Size.{Size}
-use Rattle.tree.specs.declared.Put.{Put}
-use Rattle.tree.specs.declared.Put.the-variants as put
+use Rattle.tree.specs.declared.size.Size.{Size}
+use Rattle.tree.specs.declared.put.Put.{Put}
+use Rattle.tree.specs.declared.put.Put.the-variants as put
 use Rattle.board.specs.Place.{putPlace, putLeft}
 
 module _ (size : Size) (place : ℕ) (v : Entry) (start : Float) (b : List ℕ) (ts : List Float) where

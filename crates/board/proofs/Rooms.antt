@@ -12,7 +12,7 @@ use Rattle.entries.specs.Entry.{placeWords}
 use Rattle.rules.specs.Refusals.{Checked, good, refused, _>>_, refuse_when_}
 use Rattle.rules.proofs.Laws.{never}
 use Rattle.tree.specs.Size.{levelsOf, capOf}
-use Rattle.tree.specs.declared.Size.{Size}
+use Rattle.tree.specs.declared.size.Size.{Size}
 use Rattle.board.specs.Place.{roomFor, roomOf, Holds}
 use Rattle.board.specs.declared.place.Room.{Room}
 use Rattle.board.specs.declared.place.Room.the-variants as room

@@ -11,9 +11,9 @@ use Rattle.rules.specs.Refusals.{Checked, good, refused, _>>=_, _>>_, refuse_wh
 use Rattle.entries.specs.declared.entry.Entry.{Entry}
 use Rattle.tree.specs.Size.{levelsOf, capOf}
 use Rattle.tree.specs.Put.{climbed}
-use Rattle.tree.specs.declared.Size.{Size}
-use Rattle.tree.specs.declared.Put.{Put}
-use Rattle.tree.specs.declared.Put.the-variants as put
+use Rattle.tree.specs.declared.size.Size.{Size}
+use Rattle.tree.specs.declared.put.Put.{Put}
+use Rattle.tree.specs.declared.put.Put.the-variants as put
 use Rattle.board.specs.declared.place.Room.{Room}
 use Rattle.board.specs.declared.place.Room.the-variants as room
 use Rattle.board.specs.declared.place.Written.{Written}

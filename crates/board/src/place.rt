@@ -2,10 +2,10 @@
 use entries::entry::Entry;
 use records::hit_object::HitObject;
 use rules::refusal;
-use tree::Put;
-use tree::Size;
-use tree::climb;
-use tree::size_of;
+use tree::put::Put;
+use tree::put::quick_climb;
+use tree::size::Size;
+use tree::size::size_of;
 ghost use mathlib.Core.Path.{_≡_};
 ghost use mathlib.Core.Bool.{true};
 ghost use Prim.Native.Nat.{_*_, _≤_, _<_};
@@ -53,7 +53,7 @@ pub fn put_at(
     requires { ⌜ (place < size .cap) × (placeWords * size .cap ≤ length (now board)) × (place < length (now starts)) × (inLimits entry ≡ true) ⌝ }
     ensures { λ r. ⌜ (r, now (board .exit), now (starts .exit)) ≡ putLeft (putPlace size place entry start (now (board .entry)) (now (starts .entry))) (now (board .entry)) (now (starts .entry)) ⌝ }
 {
-    match climb(board, size.levels, size.cap + place, entry) {
+    match quick_climb(board, size.levels, size.cap + place, entry) {
         Put::Refused(number) => Put::Refused(number),
         Put::Done => {
             starts[place] = start;

@@ -23,7 +23,7 @@ use ruleset::score_multiplier::drain_len;
 use ruleset::score_multiplier::score_multiplier;
 use simulator::attributes::ScoreAttributes;
 use simulator::attributes::score_attributes;
-use tree::Size;
+use tree::size::Size;
 ghost use mathlib.Core.Path.{_≡_};
 ghost use mathlib.Core.Bool.{true, false};
 ghost use Prim.Native.Nat.{_≤_, _<_, _^_, _*_};

@@ -5,29 +5,27 @@ use mathlib.Core.Bool.{true}
 use mathlib.Core.List.{List, _++_}
 use native.Mathlib.Omega.{arith}
 use lib.Ieee.{Float}
-use lib.ListN.{length, take, drop}
+use lib.ListN.{length, drop}
 use lib.Pow.{pow-pos}
-use lib.Seq.{take-all}
 use Rattle.rules.specs.Limits.{maxObjects}
 use Rattle.encoding.specs.Limits.{MapWithin}
 use Rattle.records.specs.Objects.{Object}
-use Rattle.map_file.specs.File.{Map, fileOf}
+use Rattle.map_file.specs.File.{Map as MapData, fileOf}
 use Rattle.rules.specs.Refusals.{Checked, good, refused, _>>_}
-use Rattle.simulator.specs.Attributes.{scoreAttributesOf, scoreAttributesAt}
 use Rattle.simulator.specs.declared.attributes.ScoreAttributes.{ScoreAttributes}
-use Rattle.simulator.specs.declared.legacy_score.NestedScorePerObject.{NestedScorePerObject}
-use Rattle.scoring.specs.Scores.{Outcome, Scores, scoresOf}
-use Rattle.scoring.specs.View.{playsOf}
+use Rattle.map_reader.specs.Map.{MapIs}
+use Rattle.map_reader.specs.declared.map.Map.{Map}
+use Rattle.scoring.specs.Scores.{Outcome, values, Scores, scoresOf}
+use Rattle.scoring.specs.View.{PlaysOf, good as good·file, refuses}
 use Rattle.scoring.specs.declared.plays.Wanted.{Wanted}
 use Rattle.scoring.specs.declared.plays.Plays.the-variants as plays
-use Rattle.scoring.proofs.Answers.{NoNumber, no-number, values-within, refusal-is, Good, good-is}
+use Rattle.scoring.proofs.Answers.{NoNumber, no-number, values-within}
 use Rattle.entries.specs.Entry.{entryOf, inLimits, placeWords}
 use Rattle.entries.proofs.Accepted.{entry-within}
-use Rattle.entries.proofs.Scores.{counts-are}
 use Rattle.tree.specs.Size.{levelsOf, capOf}
 use Rattle.tree.specs.Board.{boardOf, startsOf}
 use Rattle.tree.specs.Build.{laid, emptied, Raises, filled}
-use Rattle.tree.specs.declared.Size.{Size}
+use Rattle.tree.specs.declared.size.Size.{Size}
 use Rattle.tree.proofs.Levels.{levels-hold}
 use Rattle.tree.proofs.BuildRight.{laid-length, fills, build-right}
 use Rattle.board.specs.Place.{roomFor, roomOf, Holds, writtenLeft}
@@ -41,10 +39,6 @@ use Rattle.board.proofs.Rooms as rooms
 abbrev pub everyObject : ℕ
 everyObject = 18446744073709551615
 
-count-of : (m : Map) (p : ℕ) → scoreAttributesAt m p .«object_count» ≡ length (take p (m .objects))
-unfolding scoreAttributesAt scoreAttributesOf entryOf
-count-of m p = sym (ap (λ (c : NestedScorePerObject). c .«object_count») (counts-are (take p (m .objects))))
-
 -- ---- the words, for any numbers that are the places and the objects
 module _ (os : List Object) (b : List ℕ) (fits : inLimits (entryOf os) ≡ true) (few : length os ≤ maxObjects) (room : placeWords * capOf (length os) ≤ length b)
     {c n : ℕ} {w : List ℕ} (cap : c ≡ capOf (length os)) (count : n ≡ length os) (words : w ≡ laid (capOf (length os)) os b) where
@@ -55,15 +49,24 @@ module _ (os : List Object) (b : List ℕ) (fits : inLimits (entryOf os) ≡ tru
   filled-at = rw (cap, count, words) (build-right os b fits few room)
 
 -- ---- a file
+-- that gets no number, and its map
+record FileGood (s : List ℕ) (m : Map) : Type 0 where
+  scores : Scores
+  is : scoresOf (fileOf s) ≡ values scores
+  map : MapIs s everyObject m
+  same : scores .map ≡ map .file .map
+
+file-good : {s : List ℕ} {i : ℕ} {m : Map} {a : ScoreAttributes} {w : Wanted} → PlaysOf s everyObject i (plays.Good m a w) → FileGood s m
+file-good (good·file k x e same attributes wanted) = record { scores = x; is = e; map = k; same = same }
+
 module _ (s : List ℕ) (b : List ℕ) (ts : List Float) where
   -- a file's refusal stands
-  pub file-refused : (i n at : ℕ) → plays.Refused n at ≡ playsOf everyObject i (scoresOf (fileOf s))
-      → (written.Refused n at, b, ts) ≡ built (scoresOf (fileOf s)) b ts
-  file-refused i n at e = ap (λ (x : Outcome Scores). built x b ts) (refusal-is everyObject i (scoresOf (fileOf s)) n at e)
+  pub file-refused : {i n at : ℕ} → PlaysOf s everyObject i (plays.Refused n at) → (written.Refused n at, b, ts) ≡ built (scoresOf (fileOf s)) b ts
+  file-refused (refuses e) = sym (ap (λ (x : Outcome Scores). built x b ts) e)
 
-  module _ (i : ℕ) (a : ScoreAttributes) (w : Wanted) (e : plays.Good a w ≡ playsOf everyObject i (scoresOf (fileOf s))) where
-    abbrev k : Good everyObject i (scoresOf (fileOf s)) a w
-    k = good-is everyObject i (scoresOf (fileOf s)) a w e
+  module _ {i : ℕ} {m : Map} {a : ScoreAttributes} {w : Wanted} (e : PlaysOf s everyObject i (plays.Good m a w)) where
+    abbrev k : FileGood s m
+    k = file-good e
 
     abbrev os : List Object
     os = k .scores .map .objects
@@ -71,10 +74,8 @@ module _ (s : List ℕ) (b : List ℕ) (ts : List Float) where
     limits : MapWithin (k .scores .map)
     limits = values-within s (k .scores) (k .is)
 
-    count-is : a .«object_count» ≡ length os
-    count-is =
-        let all : take everyObject os ≡ os = take-all everyObject os (omega (arith, limits .few-objects)) in
-        ap (λ (x : ScoreAttributes). x .«object_count») (k .attributes) ∙ count-of (k .scores .map) everyObject ∙ ap length all
+    count-is : m .objects ≡ length os
+    count-is = k .map .objects ∙ ap (λ (n : MapData). length (n .objects)) (sym (k .same))
 
     -- the answer is that on the map's objects
     on-objects : {x : Checked (List ℕ × List Float)} → buildOf os b ts ≡ x → writtenLeft x b ts ≡ built (scoresOf (fileOf s)) b ts
@@ -82,7 +83,7 @@ module _ (s : List ℕ) (b : List ℕ) (ts : List Float) where
         sym (ap (λ (x : Checked (List ℕ × List Float)). writtenLeft x b ts) q) ∙ sym (ap (λ (x : Outcome Scores). built x b ts) (k .is))
 
     -- no room
-    pub no-room : (n : ℕ) → room.Refused n ≡ roomOf (a .«object_count») (roomFor b ts (a .«object_count»))
+    pub no-room : (n : ℕ) → room.Refused n ≡ roomOf (m .objects) (roomFor b ts (m .objects))
         → (written.Refused n 0, b, ts) ≡ built (scoresOf (fileOf s)) b ts
     unfolding buildOf _>>_
     no-room n q =
@@ -90,7 +91,7 @@ module _ (s : List ℕ) (b : List ℕ) (ts : List Float) where
         let stopped : buildOf os b ts ≡ refused n = rw (rooms.told-refused b ts (length os) n there) in
         on-objects stopped
 
-    module _ (size : Size) (q : room.Is size ≡ roomOf (a .«object_count») (roomFor b ts (a .«object_count»))) where
+    module _ (size : Size) (q : room.Is size ≡ roomOf (m .objects) (roomFor b ts (m .objects))) where
       there : room.Is size ≡ roomOf (length os) (roomFor b ts (length os))
       there = subst (λ (n : ℕ). room.Is size ≡ roomOf n (roomFor b ts n)) count-is q
 
@@ -103,19 +104,21 @@ module _ (s : List ℕ) (b : List ℕ) (ts : List Float) where
       places : length os ≤ capOf (length os)
       places = levels-hold (length os) (holds .few)
 
-      pub build-lays : Lays (size .cap) (fileOf s) b ts
+      pub build-lays : Lays (size .cap) s m b ts
       build-lays =
-          let same : length (read .file .map .objects) ≡ length os = ap (λ (m : Map). length (m .objects)) (sym (read .map)) in
+          let c = count-is in
           record {
             file = read .file;
             read = read .read;
-            places = omega (arith, same, places, holds .cap);
+            p = everyObject;
+            map = k .map;
+            places = omega (arith, c, places, holds .cap);
             words = omega (arith, holds .words, holds .cap);
-            numbers = omega (arith, same, holds .numbers);
+            numbers = omega (arith, c, holds .numbers);
           }
 
       objects-are : objectsOf (fileOf s) ≡ os
-      objects-are = ap objectsOf (read .read) ∙ ap (λ (m : Map). m .objects) (sym (read .map))
+      objects-are = ap objectsOf (read .read) ∙ ap (λ (n : MapData). n .objects) (sym (read .map))
 
       fits : inLimits (entryOf os) ≡ true
       fits = entry-within os (limits .objects) (limits .few-objects) (limits .low-bonus)
@@ -129,8 +132,8 @@ module _ (s : List ℕ) (b : List ℕ) (ts : List Float) where
             ap (λ (x : List ℕ × List Float). x .1) r ∙ ap (λ (l : List Object). startsOf l ++ drop (length l) ts) objects-are
 
         -- what is laid can be filled
-        pub build-fills : (1 ≤ size .cap) × (a .«object_count» ≤ size .cap) × (size .cap * placeWords ≤ length b′)
-            × Raises (size .cap - 1) (emptied (size .cap) (a .«object_count») b′)
+        pub build-fills : (1 ≤ size .cap) × (m .objects ≤ size .cap) × (size .cap * placeWords ≤ length b′)
+            × Raises (size .cap - 1) (emptied (size .cap) (m .objects) b′)
         build-fills =
             let some : 1 ≤ capOf (length os) = pow-pos (levelsOf (length os)) in
             let long = ap length words-are ∙ laid-length (capOf (length os)) os b in (
@@ -141,7 +144,7 @@ module _ (s : List ℕ) (b : List ℕ) (ts : List Float) where
             )
 
         -- the board and the start table
-        pub build-done : (b″ : List ℕ) → b″ ≡ filled (size .cap) (a .«object_count») b′
+        pub build-done : (b″ : List ℕ) → b″ ≡ filled (size .cap) (m .objects) b′
             → (written.Done, b″, ts′) ≡ built (scoresOf (fileOf s)) b ts
         unfolding buildOf _>>_
         build-done b″ v =

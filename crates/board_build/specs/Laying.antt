@@ -2,18 +2,17 @@
 use Prim.Native.Nat.{ℕ, _+_, _*_, _≤_, _<_}
 use mathlib.Core.Path.{_≡_}
 use mathlib.Core.List.{List, _++_}
-use lib.Dec.{eqb}
 use lib.Ieee.{Float}
 use lib.ListN.{length, drop, set}
-use Rattle.map_file.specs.Order.{headerRank, breakRank}
-use Rattle.rules.specs.Limits.{maxNested, headerSize, breakSize, playSize}
-use Rattle.rules.specs.Refusals.{pick}
+use Rattle.rules.specs.Limits.{maxNested}
 use Rattle.records.specs.Objects.{Object}
-use Rattle.map_file.specs.File.{File, Result, accepted, refusedAt}
+use Rattle.map_file.specs.File.{File, Result, accepted, refusedAt, fileOf}
 use Rattle.records.specs.declared.record.Record.{Record}
 use Rattle.records.specs.declared.record.Record.the-variants as record·case
 use Rattle.records.specs.declared.record.Read.{Read}
 use Rattle.records.specs.declared.record.Read.the-variants as read
+use Rattle.map_reader.specs.Map.{MapIs}
+use Rattle.map_reader.specs.declared.map.Map.{Map}
 use Rattle.simulator.specs.Limits.{nestedCount}
 use Rattle.entries.specs.Entry.{ownEntry, placeWords}
 use Rattle.entries.specs.Words.{putEntry}
@@ -43,17 +42,15 @@ abbrev pub readLaid : ℕ → ℕ → Read → List ℕ → List Float → ℕ �
 readLaid cap place (read.Refused n) b ts = (0, b, ts)
 readLaid cap place (read.Good item n) b ts = let after = recordLaid cap place item b ts in (n, after .0, after .1)
 
--- the size of a record that is no object, by its place in the order: a header, a break or a play
-abbrev pub sizeOf : ℕ → ℕ
-sizeOf rank = pick (eqb rank headerRank) headerSize (pick (eqb rank breakRank) breakSize playSize)
-
--- an accepted file, and room for its objects
-pub record Lays (cap : ℕ) (r : Result) (b : List ℕ) (ts : List Float) : Type 0 where
+-- an accepted file, the map that stands in it, and room for its objects
+pub record Lays (cap : ℕ) (s : List ℕ) (m : Map) (b : List ℕ) (ts : List Float) : Type 0 where
   pub file : File
-  pub read : r ≡ accepted file
-  pub places : length (file .map .objects) ≤ cap
+  pub read : fileOf s ≡ accepted file
+  pub p : ℕ
+  pub map : MapIs s p m
+  pub places : m .objects ≤ cap
   pub words : placeWords * cap ≤ length b
-  pub numbers : length (file .map .objects) ≤ length ts
+  pub numbers : m .objects ≤ length ts
 
 -- the objects of a file
 abbrev pub objectsOf : Result → List Object

@@ -4,15 +4,11 @@ use board::place::Written;
 use board::place::room_for;
 use entries::entry::Entry;
 use entries::words::store;
-use map_file::file::BREAK_RANK;
-use map_file::file::HEADER_RANK;
-use map_file::file::OBJECT_RANK;
-use map_file::file::rank_of;
+use map_reader::map::Map;
+use map_reader::map::objects_from;
 use numbers::words::word_at;
-use play_state::Play;
-use records::beatmap::BreakPeriod;
-use records::beatmap::Settings;
 use records::hit_object;
+use records::object_record;
 use records::record::Read;
 use records::record::Record;
 use scoring::plays::Plays;
@@ -23,7 +19,7 @@ ghost use Rattle.records.specs.Records.{recordRead, objectOf};
 ghost use Rattle.map_file.specs.File.{fileOf};
 ghost use Rattle.scoring.specs.Scores.{scoresOf};
 ghost use Rattle.board_build.specs.Build.{built};
-ghost use Rattle.board_build.specs.Laying.{LaysRecord, recordLaid, LaysRead, readLaid, sizeOf, Lays, objectsLaid};
+ghost use Rattle.board_build.specs.Laying.{LaysRecord, recordLaid, LaysRead, readLaid, Lays, objectsLaid};
 
 // An object's own entry and its start at its place; other records have neither.
 fn lay_record(board: &mut [u64], starts: &mut [f64], cap: usize, place: usize, item: Record)
@@ -69,47 +65,28 @@ fn lay_object(
     ensures { λ x. ⌜ (x, now (board .exit), now (starts .exit)) ≡ readLaid cap place (recordRead (objectOf (now (r .entry)) mark)) (now (board .entry)) (now (starts .entry)) ⌝ }
 {
     if mark == hit_object::CI {
-        return lay_read(hit_object::read_circle(r), board, starts, cap, place);
+        return lay_read(object_record::read_circle(r), board, starts, cap, place);
     }
     if mark == hit_object::SL {
-        return lay_read(hit_object::read_slider(r), board, starts, cap, place);
+        return lay_read(object_record::read_slider(r), board, starts, cap, place);
     }
     if mark == hit_object::SP {
-        return lay_read(hit_object::read_spinner(r), board, starts, cap, place);
+        return lay_read(object_record::read_spinner(r), board, starts, cap, place);
     }
     0
 }
 
-// The size of a record that is no object, by its place in the order.
-fn size_of(rank: u8) -> usize
-    ensures { λ r. ⌜ r ≡ sizeOf rank ⌝ }
-{
-    if rank == HEADER_RANK {
-        return Settings::SIZE;
-    }
-    if rank == BREAK_RANK {
-        return BreakPeriod::SIZE;
-    }
-    Play::SIZE
-}
-
-// The own entries and the starts of an accepted file's objects.
-fn lay(file: &[u8], board: &mut [u64], starts: &mut [f64], cap: usize)
-    requires { ⌜ Lays cap (fileOf (now file)) (now board) (now starts) ⌝ }
+// The own entries and the starts of a map's objects.
+fn lay(file: &[u8], map: Map, board: &mut [u64], starts: &mut [f64], cap: usize)
+    requires { ⌜ Lays cap (now file) map (now board) (now starts) ⌝ }
     ensures { λ _. ⌜ (now (board .exit), now (starts .exit)) ≡ objectsLaid cap (fileOf (now (file .entry))) (now (board .entry)) (now (starts .entry)) ⌝ }
 {
-    let mut at = 0;
+    let mut at = objects_from(map.breaks);
     let mut place = 0;
-    while at < file.len() {
+    while place < map.objects as usize {
         let r = &file[at..];
-        let mark = word_at(r, 0, 2);
-        let rank = rank_of(mark);
-        if rank == OBJECT_RANK {
-            at += lay_object(r, mark, board, starts, cap, place);
-            place += 1;
-        } else {
-            at += size_of(rank);
-        }
+        at += lay_object(r, word_at(r, 0, 2), board, starts, cap, place);
+        place += 1;
     }
 }
 
@@ -119,12 +96,12 @@ pub fn build(file: &[u8], board: &mut [u64], starts: &mut [f64]) -> Written
 {
     match check_plays(file, u64::MAX, 0) {
         Plays::Refused { number, offset } => Written::Refused { number, offset },
-        Plays::Good(a, _) => {
-            let count = a.object_count as usize;
+        Plays::Good(map, _, _) => {
+            let count = map.objects as usize;
             match room_for(board, starts, count) {
                 Room::Refused(number) => Written::Refused { number, offset: 0 },
                 Room::Is(size) => {
-                    lay(file, board, starts, size.cap);
+                    lay(file, map, board, starts, size.cap);
                     fill(board, size.cap, count);
                     Written::Done
                 }

@@ -25,7 +25,7 @@ use Rattle.simulator.specs.Attributes.{scoreAttributesOf, scoreAttributesAt}
 use Rattle.simulator.specs.View.{times}
 use Rattle.simulator.specs.declared.attributes.ScoreAttributes.{ScoreAttributes}
 use Rattle.simulator.proofs.Walks.{after-times, fresh-times}
-use Rattle.file_sums.proofs.Passed.{attributes-passed}
+use Rattle.map_reader.proofs.Passed.{attributes-passed}
 use Rattle.play_score.specs.PlayRules.{modsBad, playScore, givenScore}
 use Rattle.entries.specs.Entry.{entryOf}
 use Rattle.entries.proofs.Scores.{state-is, counts-are}

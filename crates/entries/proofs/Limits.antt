@@ -104,9 +104,9 @@ module _ (a b : Entry) where
 
 -- ---- a sum of a few entries
 
-pub sum-of-one : (e : Entry) → inLimits e ≡ true → SumOf (maxLevels + 1) e
+pub sum-of-entry : (e : Entry) → inLimits e ≡ true → SumOf 1 e
 unfolding SumOf
-sum-of-one e h = (
+sum-of-entry e h = (
   λ i lt. let x = word-le e h i lt in let m = limit-most i in omega (arith, x, m),
   let k : e .combo ≤ maxCombo = word-le e h 1 (lit< tt) in omega (arith, k),
 )
@@ -118,6 +118,9 @@ sum-of-none = (λ i lt. most 0 (wordsOf none) refl i, omega arith)
 pub sum-of-more : (n k : ℕ) (e : Entry) → n ≤ k → SumOf n e → SumOf k e
 unfolding SumOf
 sum-of-more n k e le h = (λ i lt. let x = h .0 i lt in omega (arith, x, le), let x = h .1 in omega (arith, x, le))
+
+pub sum-of-one : (e : Entry) → inLimits e ≡ true → SumOf (maxLevels + 1) e
+sum-of-one e h = sum-of-more 1 (maxLevels + 1) e (lit≤ tt) (sum-of-entry e h)
 
 -- one entry more
 pub sum-of-joined : (n : ℕ) (a b : Entry) → n < 14 → SumOf n a → inLimits b ≡ true → SumOf (suc n) (joined a b)
@@ -150,6 +153,37 @@ sum-of-joined n a b few ha hb = (at-each 3 first other, combo)
         let y : b .combo ≤ maxCombo = word-le b hb 1 (lit< tt) in
         omega (arith, w, x, y)
 
+-- the same with the entry before the sum, whose count is a factor then
+pub sum-of-led : (n : ℕ) (a b : Entry) → n < 14 → SumOf n a → a .«object_count» ≤ n * maxObjects → inLimits b ≡ true → SumOf (suc n) (joined b a)
+unfolding SumOf
+sum-of-led n a b few ha count hb = (at-each 3 first other, combo)
+  where
+    product : b .combo * a .«object_count» ≤ maxCombo * (n * maxObjects)
+    product = mul-le-mul (word-le b hb 1 (lit< tt)) count
+
+    first : joined b a .«first_no_slider» ≤ suc n * 2199023255552
+    first =
+        let x = ha .0 3 (lit< tt) in
+        let y : b .«first_no_slider» ≤ 1 = word-le b hb 3 (lit< tt) in
+        first-most b a (suc n * 2199023255552) (omega (arith, y)) (omega (arith, x))
+
+    other : (i : ℕ) → i < entryWords → i ≢ 3 → getD (wordsOf (joined b a)) i 0 ≤ suc n * 2199023255552
+    other i lt ne =
+        let w = word-joined b a i lt ne in
+        let x = ha .0 i lt in
+        let y = word-le b hb i lt in
+        let m = limit-most i in
+        let p = more-most b a i in
+        let q = product in
+        omega (arith, w, x, y, m, p, q, few)
+
+    combo : joined b a .combo ≤ suc n * maxCombo
+    combo =
+        let w : joined b a .combo ≡ b .combo + a .combo + 0 = word-joined b a 1 (lit< tt) (omega arith) in
+        let x = ha .1 in
+        let y : b .combo ≤ maxCombo = word-le b hb 1 (lit< tt) in
+        omega (arith, w, x, y)
+
 module _ (a b : Entry) (ha : SumOf (maxLevels + 1) a) (hb : inLimits b ≡ true) where
   pub sum-fits : (i : ℕ) → i < entryWords → getD (wordsOf a) i 0 + getD (wordsOf b) i 0 < 18446744073709551616
   unfolding SumOf
@@ -170,3 +204,17 @@ module _ (a b : Entry) (ha : SumOf (maxLevels + 1) a) (hb : inLimits b ≡ true)
       let y : b .«combos_before» ≤ maxCombosBefore = word-le b hb 2 (lit< tt) in
       let p = product-fits in
       omega (arith, x, y, p)
+
+  -- the same with chosen factors
+  module _ (count : a .«object_count» ≤ (maxLevels + 1) * maxObjects) where
+    pub chosen-product : (l : Bool) → cond l (a .combo) (b .combo) * cond l (b .«object_count») (a .«object_count») ≤ 114802688 * maxObjects
+    chosen-product true = product-fits
+    chosen-product false = let p = mul-le-mul (word-le b hb 1 (lit< tt)) count in omega (arith, p)
+
+    pub chosen-combos : (l : Bool) → a .«combos_before» + b .«combos_before» + cond l (a .combo) (b .combo) * cond l (b .«object_count») (a .«object_count») < 18446744073709551616
+    unfolding SumOf
+    chosen-combos l =
+        let x : a .«combos_before» ≤ 14 * 2199023255552 = ha .0 2 (lit< tt) in
+        let y : b .«combos_before» ≤ maxCombosBefore = word-le b hb 2 (lit< tt) in
+        let p = chosen-product l in
+        omega (arith, x, y, p)

@@ -1,8 +1,10 @@
 -- The words of a run of objects: those of two neighbouring runs joined are those of both, and one object's are what the code makes of it.
 use Prim.Native.Nat.{ℕ, zero, suc, _+_, _*_, _≤_, _<_}
 use mathlib.Core.Path.{_≡_, refl, sym, ap, _∙_}
+use mathlib.Core.Bool.{Bool, true, false, cond}
 use mathlib.Core.List.{List, [], _∷_, _++_}
 use native.Mathlib.Omega.{arith}
+use native.Mathlib.Nat.{add-comm}
 use lib.Dec.{ltb}
 use lib.ListN.{length, getD, length-append}
 use borrow.Author.Tests.{lt-ltb}
@@ -44,6 +46,48 @@ entry-same v w h =
       «n_repeats» = h10 i;
       «n_ticks» = h11 i;
       «spinner_score» = h12 i;
+    }
+
+-- the joined entry of two in either order: k and n are the factors, c, f and g what the first objects are told from, h what they are
+pub joined-at : (l : Bool) (a b : Entry) (k n c f g h : ℕ) → k ≡ cond l (a .combo) (b .combo) → n ≡ cond l (b .«object_count») (a .«object_count»)
+    → c ≡ cond l (a .«object_count») (b .«object_count») → f ≡ cond l (a .«first_no_slider») (b .«first_no_slider»)
+    → g ≡ cond l (b .«first_no_slider») (a .«first_no_slider») → h ≡ firstOf c f g
+    → _≡_ {A = Entry}
+    (record {
+      «object_count» = a .«object_count» + b .«object_count»;
+      combo = a .combo + b .combo;
+      «combos_before» = a .«combos_before» + b .«combos_before» + k * n;
+      «first_no_slider» = h;
+      «accuracy_score» = a .«accuracy_score» + b .«accuracy_score»;
+      «legacy_bonus_score» = a .«legacy_bonus_score» + b .«legacy_bonus_score»;
+      «standardised_bonus_score» = a .«standardised_bonus_score» + b .«standardised_bonus_score»;
+      «n_circles» = a .«n_circles» + b .«n_circles»;
+      «n_sliders» = a .«n_sliders» + b .«n_sliders»;
+      «n_spinners» = a .«n_spinners» + b .«n_spinners»;
+      «n_repeats» = a .«n_repeats» + b .«n_repeats»;
+      «n_ticks» = a .«n_ticks» + b .«n_ticks»;
+      «spinner_score» = a .«spinner_score» + b .«spinner_score»;
+    })
+    (cond l (joined a b) (joined b a))
+unfolding joined
+joined-at true a b k n c f g h ek en ec ef eg eh = rw (ek, en, eh, ec, ef, eg) refl
+joined-at false a b k n c f g h ek en ec ef eg eh =
+    let before : a .«combos_before» + b .«combos_before» + k * n ≡ b .«combos_before» + a .«combos_before» + b .combo * a .«object_count» = rw (ek, en) (omega arith) in
+    let first : h ≡ firstOf (b .«object_count») (b .«first_no_slider») (a .«first_no_slider») = rw (eh, ec, ef, eg) refl in
+    λ i. record {
+      «object_count» = add-comm (a .«object_count») (b .«object_count») i;
+      combo = add-comm (a .combo) (b .combo) i;
+      «combos_before» = before i;
+      «first_no_slider» = first i;
+      «accuracy_score» = add-comm (a .«accuracy_score») (b .«accuracy_score») i;
+      «legacy_bonus_score» = add-comm (a .«legacy_bonus_score») (b .«legacy_bonus_score») i;
+      «standardised_bonus_score» = add-comm (a .«standardised_bonus_score») (b .«standardised_bonus_score») i;
+      «n_circles» = add-comm (a .«n_circles») (b .«n_circles») i;
+      «n_sliders» = add-comm (a .«n_sliders») (b .«n_sliders») i;
+      «n_spinners» = add-comm (a .«n_spinners») (b .«n_spinners») i;
+      «n_repeats» = add-comm (a .«n_repeats») (b .«n_repeats») i;
+      «n_ticks» = add-comm (a .«n_ticks») (b .«n_ticks») i;
+      «spinner_score» = add-comm (a .«spinner_score») (b .«spinner_score») i;
     }
 
 -- ---- two runs

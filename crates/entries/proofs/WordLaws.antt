@@ -9,7 +9,7 @@ use native.Mathlib.Numerals.{add-one, towards-suc}
 use native.Mathlib.Decide.{decLt}
 use lib.Dec.{lit<}
 use lib.ListN.{length, getD, take, drop, set, length-set, length-append, length-drop, take-append-drop}
-use lib.Seq.{sets, length-sets, getD-set-same, getD-set-other, getD-drop, drop-drop, drop-set-lt}
+use lib.Seq.{sets, length-sets, getD-set-same, getD-set-other, getD-drop, drop-drop, drop-set-lt, set-comm}
 use Rattle.entries.specs.Entry.{wordsOf, entryWords}
 use Rattle.entries.specs.Words.{entryAt, putEntry, puts, restOf, wordsFrom}
 use Rattle.entries.specs.declared.entry.Entry.{Entry}
@@ -81,6 +81,23 @@ put-other b e x v ne = rw put-sets (entry-ext _ _ x x (λ k g. go k g (decLt x e
     go : (k : ℕ) → k < entryWords → Dec (x < e) → getD (sets b (e * entryWords) (wordsOf v)) (x * entryWords + k) 0 ≡ getD b (x * entryWords + k) 0
     go k g (yes h) = sets-below (wordsOf v) b (e * entryWords) (x * entryWords + k) (omega arith)
     go k g (no h) = sets-above (wordsOf v) b (e * entryWords) (x * entryWords + k) (omega arith)
+
+-- two stores at different entries, in either order
+set-past : (ws b : List ℕ) (i j v : ℕ) → i < j → sets (set b i v) j ws ≡ set (sets b j ws) i v
+set-past [] b i j v h = refl
+set-past (w ∷ ws) b i j v h = ap (λ (l : List ℕ). sets l (suc j) ws) (set-comm b i j v w (ne-of-lt h)) ∙ set-past ws (set b j w) i (suc j) v (omega arith)
+
+sets-past : (vs ws b : List ℕ) (i j : ℕ) → i + length vs ≤ j → sets (sets b i vs) j ws ≡ sets (sets b j ws) i vs
+sets-past [] ws b i j h = refl
+sets-past (v ∷ vs) ws b i j h = sets-past vs ws (set b i v) (suc i) j (omega arith) ∙ ap (λ (l : List ℕ). sets l (suc i) vs) (set-past ws b i j v (omega arith))
+
+pub put-past : (b : List ℕ) (e x : ℕ) (v w : Entry) → e < x → putEntry (putEntry b x w) e v ≡ putEntry (putEntry b e v) x w
+put-past b e x v w h =
+    put-sets (putEntry b x w) e v
+    ∙ ap (λ (l : List ℕ). sets l (e * entryWords) (wordsOf v)) (put-sets b x w)
+    ∙ sym (sets-past (wordsOf v) (wordsOf w) b (e * entryWords) (x * entryWords) (omega arith))
+    ∙ ap (λ (l : List ℕ). sets l (x * entryWords) (wordsOf w)) (sym (put-sets b e v))
+    ∙ sym (put-sets (putEntry b e v) x w)
 
 pub put-length : (b : List ℕ) (e : ℕ) (v : Entry) → length (putEntry b e v) ≡ length b
 put-length b e v = rw put-sets (length-sets b (e * entryWords) (wordsOf v))

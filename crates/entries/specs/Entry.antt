@@ -13,6 +13,8 @@ use Rattle.records.specs.declared.hit_object.HitObjectKind.{HitObjectKind}
 use Rattle.records.specs.declared.hit_object.HitObjectKind.the-variants as kind
 use Rattle.simulator.specs.Combo.{gain, combosBefore, firstNoSlider}
 use Rattle.simulator.specs.Nested.{spinnerScoreOf}
+use Rattle.simulator.specs.declared.legacy_score.NestedScorePerObject.{NestedScorePerObject}
+use Rattle.simulator.specs.declared.legacy_score_simulator.OsuLegacyScoreSimulator.{OsuLegacyScoreSimulator}
 use Rattle.entries.specs.declared.entry.Entry.{Entry}
 
 -- "entries of 13 u64 words"
@@ -165,6 +167,24 @@ unfoldable pub SumOf : ℕ → Entry → Type 0
 SumOf n e = ((i : ℕ) → i < entryWords → getD (wordsOf e) i 0 ≤ n * 2199023255552) × (e .combo ≤ n * maxCombo)
 
 -- ---- what the code makes of one object
+-- the sums of a state and of counts, s and f
+abbrev pub entryWith : OsuLegacyScoreSimulator → NestedScorePerObject → ℕ → ℕ → Entry
+entryWith st c s f = record {
+  «object_count» = c .«object_count»;
+  combo = st .combo;
+  «combos_before» = s;
+  «first_no_slider» = f;
+  «accuracy_score» = st .«accuracy_score»;
+  «legacy_bonus_score» = st .«legacy_bonus_score» .0;
+  «standardised_bonus_score» = st .«standardised_bonus_score» .0;
+  «n_circles» = c .«n_circles»;
+  «n_sliders» = c .«n_sliders»;
+  «n_spinners» = c .«n_spinners»;
+  «n_repeats» = c .«n_repeats»;
+  «n_ticks» = c .«amount_of_small_ticks»;
+  «spinner_score» = c .«spinner_score»;
+}
+
 abbrev pub circleEntry : Entry
 circleEntry = record {
   «object_count» = 1;

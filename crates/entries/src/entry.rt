@@ -2,14 +2,14 @@
 use records::hit_object::HitObject;
 use records::hit_object::HitObjectKind;
 use records::hit_object::Slider;
-use records::hit_object::Spinner;
-use simulator::legacy_score::calculate_spinner_score;
+use simulator::legacy_score::NestedScorePerObject;
+use simulator::legacy_score_simulator::OsuLegacyScoreSimulator;
 ghost use mathlib.Core.Path.{_≡_};
-ghost use mathlib.Core.Bool.{true};
-ghost use Prim.Native.Nat.{_+_, _≤_};
-ghost use Rattle.rules.specs.Limits.{maxLevels, maxNested};
+ghost use mathlib.Core.Bool.{true, cond};
+ghost use Prim.Native.Nat.{_+_, _*_, _≤_};
+ghost use Rattle.rules.specs.Limits.{maxLevels, maxNested, maxObjects};
 ghost use Rattle.simulator.specs.Limits.{nestedCount};
-ghost use Rattle.entries.specs.Entry.{none, joined, firstOf, inLimits, SumOf, circleEntry, sliderEntry, spinnerEntry, ownEntry};
+ghost use Rattle.entries.specs.Entry.{none, joined, firstOf, inLimits, SumOf, entryWith, ownEntry};
 
 // Combo and combos_before are document 01's k and s, first_no_slider its f.
 pub struct Entry {
@@ -33,6 +33,12 @@ fn first(count: u64, a: u64, b: u64) -> u64
     ensures { λ r. ⌜ r ≡ firstOf count a b ⌝ }
 {
     if 0 < count { a } else { b }
+}
+
+fn choose(on: bool, yes: u64, no: u64) -> u64
+    ensures { λ r. ⌜ r ≡ cond on yes no ⌝ }
+{
+    if on { yes } else { no }
 }
 
 impl Entry {
@@ -72,63 +78,47 @@ impl Entry {
         }
     }
 
-    fn circle() -> Self
-        ensures { λ r. ⌜ r ≡ circleEntry ⌝ }
+    // The sums of the simulator's state and counts, with the words of the board that these have not.
+    fn with(
+        score: OsuLegacyScoreSimulator,
+        nested: NestedScorePerObject,
+        combos_before: u64,
+        first_no_slider: u64,
+    ) -> Self
+        ensures { λ r. ⌜ r ≡ entryWith score nested «combos_before» «first_no_slider» ⌝ }
     {
         Entry {
-            object_count: 1,
-            combo: 1,
-            first_no_slider: 1,
-            accuracy_score: 300,
-            n_circles: 1,
-            ..Entry::new()
+            object_count: nested.object_count,
+            combo: score.combo,
+            combos_before,
+            first_no_slider,
+            accuracy_score: score.accuracy_score,
+            legacy_bonus_score: score.legacy_bonus_score.0,
+            standardised_bonus_score: score.standardised_bonus_score.0,
+            n_circles: nested.n_circles,
+            n_sliders: nested.n_sliders,
+            n_spinners: nested.n_spinners,
+            n_repeats: nested.n_repeats,
+            n_ticks: nested.amount_of_small_ticks,
+            spinner_score: nested.spinner_score,
         }
     }
 
-    fn slider(slider: Slider) -> Self
-        requires { ⌜ slider .repeats + slider .ticks + 1 ≤ maxNested ⌝ }
-        ensures { λ r. ⌜ r ≡ sliderEntry slider ⌝ }
-    {
-        let combo = slider.repeats + slider.ticks + 2;
-        Entry {
-            object_count: 1,
-            combo,
-            combos_before: combo,
-            accuracy_score: (slider.repeats + 2) * 30 + slider.ticks * 10 + 300,
-            n_sliders: 1,
-            n_repeats: slider.repeats,
-            n_ticks: slider.ticks,
-            ..Entry::new()
-        }
-    }
-
-    fn spinner(spinner: Spinner) -> Self
-        ensures { λ r. ⌜ r ≡ spinnerEntry spinner ⌝ }
-    {
-        let bonus = spinner::bonus(spinner.duration);
-        Entry {
-            object_count: 1,
-            combo: 1,
-            first_no_slider: 1,
-            accuracy_score: 300,
-            legacy_bonus_score: bonus.legacy.0,
-            standardised_bonus_score: bonus.standardised.0,
-            n_spinners: 1,
-            spinner_score: calculate_spinner_score(spinner),
-            ..Entry::new()
-        }
-    }
-
-    // That of one object.
+    // That of one object: what the simulator's own step makes of it.
     pub fn own(object: HitObject) -> Self
         requires { ⌜ nestedCount (object .kind) ≤ maxNested ⌝ }
         ensures { λ r. ⌜ r ≡ ownEntry (object .kind) ⌝ }
     {
         let kind = object.kind;
+        let score = OsuLegacyScoreSimulator::new();
+        let nested = NestedScorePerObject::new().process_next(object);
         match kind {
-            HitObjectKind::Circle => Entry::circle(),
-            HitObjectKind::Slider(slider) => Entry::slider(slider),
-            HitObjectKind::Spinner(spinner) => Entry::spinner(spinner),
+            HitObjectKind::Circle => Entry::with(score.circle(), nested, 0, 1),
+            HitObjectKind::Slider(slider) => {
+                let after = score.slider(slider);
+                Entry::with(after, nested, after.combo, 0)
+            }
+            HitObjectKind::Spinner(spinner) => Entry::with(score.spinner(spinner), nested, 0, 1),
         }
     }
 
@@ -161,6 +151,33 @@ impl Entry {
             combo: self.combo + b.combo,
             combos_before: self.combos_before + b.combos_before + self.combo * b.object_count,
             first_no_slider: first(self.object_count, self.first_no_slider, b.first_no_slider),
+            accuracy_score: self.accuracy_score + b.accuracy_score,
+            legacy_bonus_score: self.legacy_bonus_score + b.legacy_bonus_score,
+            standardised_bonus_score: self.standardised_bonus_score + b.standardised_bonus_score,
+            n_circles: self.n_circles + b.n_circles,
+            n_sliders: self.n_sliders + b.n_sliders,
+            n_spinners: self.n_spinners + b.n_spinners,
+            n_repeats: self.n_repeats + b.n_repeats,
+            n_ticks: self.n_ticks + b.n_ticks,
+            spinner_score: self.spinner_score + b.spinner_score,
+        }
+    }
+
+    // The same, or that of the objects of b and then those of self: the factors are chosen, so that a way up the tree takes no branch for its side.
+    pub fn join_at(self, b: Entry, leads: bool) -> Self
+        requires { ⌜ SumOf (maxLevels + 1) self × (self .«object_count» ≤ (maxLevels + 1) * maxObjects) × (inLimits b ≡ true) ⌝ }
+        ensures { λ r. ⌜ r ≡ cond leads (joined self b) (joined b self) ⌝ }
+    {
+        let combo = choose(leads, self.combo, b.combo);
+        let count = choose(leads, b.object_count, self.object_count);
+        let first_count = choose(leads, self.object_count, b.object_count);
+        let first_there = choose(leads, self.first_no_slider, b.first_no_slider);
+        let first_behind = choose(leads, b.first_no_slider, self.first_no_slider);
+        Entry {
+            object_count: self.object_count + b.object_count,
+            combo: self.combo + b.combo,
+            combos_before: self.combos_before + b.combos_before + combo * count,
+            first_no_slider: first(first_count, first_there, first_behind),
             accuracy_score: self.accuracy_score + b.accuracy_score,
             legacy_bonus_score: self.legacy_bonus_score + b.legacy_bonus_score,
             standardised_bonus_score: self.standardised_bonus_score + b.standardised_bonus_score,

@@ -114,7 +114,7 @@ fn hold(count: f64, hits: OsuHitResults) -> f64
     )
 }
 
-fn effective(combo: f64, score: MissCount, hits: OsuHitResults) -> f64
+fn effective_miss_count(combo: f64, score: MissCount, hits: OsuHitResults) -> f64
     ensures { λ r. ⌜ r ≡ effectiveOf combo score hits ⌝ }
 {
     let MissCount::Is(count) = score else {
@@ -144,6 +144,6 @@ pub fn calculate(play: Play, attrs: OsuDifficultyAttributes) -> Estimates
         accuracy: acc,
         combo_based,
         score_based,
-        effective: effective(combo_based, score_based, hits),
+        effective: effective_miss_count(combo_based, score_based, hits),
     }
 }

@@ -3,8 +3,8 @@ use Prim.Native.Nat.{ℕ}
 use lib.Ieee.{binary32, ofBits}
 use Rattle.records.specs.declared.beatmap.Settings.{Settings}
 use Rattle.map_file.specs.declared.file.Reader.{Reader}
-use Rattle.map_file.specs.declared.file.Answer.{Answer}
-use Rattle.map_file.specs.declared.file.Answer.the-variants as answer
+use Rattle.play_reader.specs.declared.Answer.{Answer}
+use Rattle.play_reader.specs.declared.Answer.the-variants as answer
 use Rattle.host.specs.declared.map.HostSettings.{HostSettings}
 use Rattle.host.specs.declared.map.MapInfo.{MapInfo}
 

@@ -1,6 +1,6 @@
 // The settings of a map, and what a host is told of a map file before it scores it.
-use map_file::file::Answer;
 use map_file::file::Reader;
+use play_reader::Answer;
 use records::beatmap::Settings;
 ghost use mathlib.Core.Path.{_≡_};
 ghost use Rattle.host.specs.Map.{settingsIn, mapInfoIn, mapInfoRefused, mapInfoOf};

@@ -1,6 +1,6 @@
 -- The listing of any input leaves room in the program's space: a line is short, a play takes 44 bytes of the input, and a longer input than 65,536
 -- bytes gets one line. Assumes nothing.
-use mathlib.Core.Path.{_≡_, refl, sym, ap, _∙_, subst}
+use mathlib.Core.Path.{_≡_, refl, ap, _∙_, subst}
 use mathlib.Core.Bool.{Bool, true, false}
 use mathlib.Core.List.{List, [], _∷_, _++_}
 use Prim.Native.Nat.{ℕ, zero, suc, _+_, _*_, _^_, _≤_, _<_}
@@ -17,7 +17,7 @@ use Rattle.play_state.specs.declared.Play.{Play}
 use Rattle.rules.proofs.Laws.{never}
 use Rattle.map_file.proofs.Reading.{foundAt, found-sized, length-snoc}
 use Rattle.map_file.proofs.Sizes.{SizeBy}
-use Rattle.encoding.specs.Limits.{MapWithin, ObjectWithin, Each, none as no-more, one}
+use Rattle.encoding.specs.Limits.{MapWithin, Each, none as no-more, one}
 use Rattle.ruleset.specs.Stars.{multiplierAt}
 use Rattle.ruleset.proofs.Drains.{multiplier-most}
 use Rattle.simulator.specs.Walk.{State, fresh as no-hit, after}

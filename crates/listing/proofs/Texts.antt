@@ -1,46 +1,54 @@
--- From the score of a map to the text of its file.
+-- From what the check of a file's plays answered to the text of the file.
 use mathlib.Core.Path.{_≡_, refl, sym, ap, _∙_}
 use mathlib.Core.List.{List, _++_}
-use Prim.Native.Nat.{ℕ, _+_, _≤_, _<_, min}
+use Prim.Native.Nat.{ℕ, _+_, _≤_, min}
 use native.Mathlib.Omega.{arith}
 use mathlib.Core.Bool.{Bool, true, false}
-use borrow.Author.Tests.{ltb-true, ltb-false, lt-ltb, le-ltb}
+use borrow.Author.Tests.{ltb-true, ltb-false, le-ltb}
 use lib.Dec.{ltb}
 use lib.ListN.{length}
 use Rattle.text.specs.Space.{behind}
+use Rattle.text.proofs.Space.{Puts, length-put}
 use Rattle.lines.specs.Lines.{mapLine, refusedLine}
 use Rattle.map_file.specs.File.{fileOf}
 use Rattle.simulator.specs.Attributes.{scoreAttributesAt}
 use Rattle.simulator.specs.declared.attributes.ScoreAttributes.{ScoreAttributes}
+use Rattle.map_reader.specs.declared.map.Map.{Map}
 use Rattle.scoring.specs.Scores.{Outcome, refusal, values, Scores, scoresOf, mapScoreOf}
+use Rattle.scoring.specs.View.{PlaysOf, good}
+use Rattle.scoring.specs.declared.plays.Wanted.{Wanted}
+use Rattle.scoring.specs.declared.plays.Plays.the-variants as answer
 use Rattle.scoring.specs.declared.score.MapScore.the-variants as map·score
-use Rattle.listing.specs.Listing.{IsGood, playsText, textOf, fileText, listedAt, listedOf}
+use Rattle.scoring.proofs.Answers.{plays-refused, map-scored}
+use Rattle.listing.specs.Listing.{GoodFile, playsText, textOf, fileText, listedAt, listedOf}
 use Rattle.rules.proofs.Laws.{never}
-
-refused-text : (x : Outcome Scores) (n at : ℕ) → map·score.Refused n at ≡ mapScoreOf x → refusedLine n at ≡ textOf x
-refused-text (refusal k o) n at e = let a : n ≡ k = cc in let b : at ≡ o = cc in rw (a, b)
-refused-text (values s) n at e = never (cc)
 
 map-text : (x : Outcome Scores) (a : ScoreAttributes) → map·score.Map a ≡ mapScoreOf x → mapLine a ++ playsText x ≡ textOf x
 map-text (refusal n at) a e = never (cc)
 map-text (values s) a e =
     let is : a ≡ scoreAttributesAt (s .map) (length (s .map .objects)) = cc in ap (λ (b : ScoreAttributes). mapLine b ++ playsText (values s)) is
 
-map-good : (x : Outcome Scores) (a : ScoreAttributes) → map·score.Map a ≡ mapScoreOf x → IsGood x
-map-good (refusal n at) a e = never (cc)
-map-good (values s) a e = tt
-
+-- all objects are passed
 module _ (s : List ℕ) where
-  pub text-refused : (n at : ℕ) → map·score.Refused n at ≡ mapScoreOf (scoresOf (fileOf s)) → refusedLine n at ≡ fileText s
+  pub text-refused : (n at : ℕ) → PlaysOf s 18446744073709551615 0 (answer.Refused n at) → refusedLine n at ≡ fileText s
   unfolding fileText
-  text-refused n at e = refused-text (scoresOf (fileOf s)) n at e
+  text-refused n at k = sym (ap textOf (plays-refused k))
 
-  pub text-map : (a : ScoreAttributes) → map·score.Map a ≡ mapScoreOf (scoresOf (fileOf s)) → mapLine a ++ playsText (scoresOf (fileOf s)) ≡ fileText s
-  unfolding fileText
-  text-map a e = map-text (scoresOf (fileOf s)) a e
+  module _ (m : Map) (a : ScoreAttributes) (w : Wanted) (k : PlaysOf s 18446744073709551615 0 (answer.Good m a w)) where
+    pub text-good : mapLine a ++ playsText (scoresOf (fileOf s)) ≡ fileText s
+    unfolding fileText
+    text-good = map-text (scoresOf (fileOf s)) a (map-scored s 0 m a w k)
 
-  pub text-good : (a : ScoreAttributes) → map·score.Map a ≡ mapScoreOf (scoresOf (fileOf s)) → IsGood (scoresOf (fileOf s))
-  text-good a e = map-good (scoresOf (fileOf s)) a e
+    pub file-good : GoodFile s m
+    file-good = go k
+      where
+        go : PlaysOf s 18446744073709551615 0 (answer.Good m a w) → GoodFile s m
+        go (good map scores e same attributes wanted) = record { p = 18446744073709551615; map = map; scores = scores; good = e }
+
+-- the place behind a text is within the space
+pub put-inside : (l : List ℕ) (at : ℕ) (t : List ℕ) {s : List ℕ} {p : ℕ} → Puts l at t s p → p ≤ length s
+unfolding behind
+put-inside l at t puts = let e = puts .0 in let size = ap length (puts .1) ∙ length-put l at t in omega (arith, e, size)
 
 -- a text that ends within the space ends at its length
 pub listed-is : (l t : List ℕ) → listedAt (behind l 0 t) (length l) ≡ listedOf t (length l)

@@ -1,5 +1,6 @@
 -- Document 01, "Runs to reproduce": the text of the listing program. Definitions only.
-use Prim.Native.Nat.{ℕ, suc, _+_}
+use Prim.Native.Nat.{ℕ, suc}
+use mathlib.Core.Path.{_≡_}
 use mathlib.Core.List.{List, [], _∷_, _++_}
 use lib.Dec.{ltb}
 use lib.ListN.{length}
@@ -7,11 +8,11 @@ use Rattle.rules.specs.Limits.{maxInput}
 use Rattle.lines.specs.Lines.{mapLine, playLine, refusedLine}
 use Rattle.rules.specs.Refusals.{pick, INPUT}
 use Rattle.map_file.specs.File.{fileOf}
+use Rattle.map_reader.specs.Map.{MapIs}
+use Rattle.map_reader.specs.declared.map.Map.{Map}
 use Rattle.simulator.specs.Attributes.{scoreAttributesAt}
 use Rattle.scoring.specs.Scores.{Outcome, refusal, values, Scores, scoresOf}
 use Rattle.play_score.specs.declared.PlayScore.{PlayScore}
-use Rattle.scoring.specs.declared.plays.Wanted.{Wanted}
-use Rattle.scoring.specs.declared.plays.Wanted.the-variants as wanted
 use Rattle.listing.specs.declared.Listed.{Listed}
 use Rattle.listing.specs.declared.Listed.the-variants as listed
 
@@ -41,18 +42,13 @@ listedOf text room = pick (ltb (length text) room) (listed.Text (length text)) l
 abbrev pub listedAt : ℕ → ℕ → Listed
 listedAt at room = pick (ltb at room) (listed.Text at) listed.NoRoom
 
-abbrev pub wantedLine : ℕ → Wanted → List ℕ
-wantedLine i (wanted.Ahead n) = []
-wantedLine i (wanted.Is s) = playLine i (s .estimates)
-
-abbrev pub indexAfter : ℕ → Wanted → ℕ
-indexAfter i (wanted.Ahead n) = i
-indexAfter i (wanted.Is s) = i + 1
-
-abbrev pub IsGood : Outcome Scores → Type 0
-IsGood (refusal n at) = ⊥
-IsGood (values s) = Unit
-
 abbrev pub playsText : Outcome Scores → List ℕ
 playsText (refusal n at) = []
 playsText (values s) = playLines 0 (s .plays)
+
+-- m is the map of a file that is not refused
+pub record GoodFile (s : List ℕ) (m : Map) : Type 0 where
+  pub p : ℕ
+  pub map : MapIs s p m
+  pub scores : Scores
+  pub good : scoresOf (fileOf s) ≡ values scores

@@ -2,25 +2,24 @@
 use lines::put_map_line;
 use lines::put_play_line;
 use lines::put_refused_line;
+use map_reader::map::Map;
+use marks::mark_before;
+use marks::marks_of;
+use marks::score_from;
+use play_reader::PlayRead;
+use play_reader::play_at;
+use play_score::Scored;
+use play_state::Play;
 use rules::refusal;
-use scoring::plays::Walk;
-use scoring::plays::Walked;
-use scoring::plays::Wanted;
-use scoring::plays::run_on;
-use scoring::plays::step;
-use scoring::score::MapScore;
-use scoring::score::score_map;
-use simulator::attributes::ScoreAttributes;
-use text::put_text;
+use scoring::plays::Plays;
+use scoring::plays::check_plays;
 ghost use mathlib.Core.Path.{_≡_};
-ghost use mathlib.Core.List.{_++_};
-ghost use Prim.Native.Nat.{_<_, _^_};
+ghost use Prim.Native.Nat.{_≤_};
 ghost use lib.ListN.{length};
 ghost use Rattle.text.specs.Space.{putAt, behind};
-ghost use Rattle.lines.specs.Lines.{mapLine};
 ghost use Rattle.map_file.specs.File.{fileOf};
 ghost use Rattle.scoring.specs.Scores.{scoresOf};
-ghost use Rattle.listing.specs.Listing.{wantedLine, indexAfter, IsGood, playsText, fileText, inputText, listedAt, listedOf};
+ghost use Rattle.listing.specs.Listing.{GoodFile, playsText, fileText, inputText, listedAt, listedOf};
 
 // The most bytes that the listing program takes.
 pub const MAX_INPUT: usize = 65536;
@@ -31,71 +30,48 @@ pub enum Listed {
     NoRoom,
 }
 
-// The line of a record that was a play.
-fn put_wanted(space: &mut [u8], at: usize, index: u64, wanted: Wanted) -> usize
-    ensures { λ r. ⌜ r ≡ behind (now (space .entry)) at (wantedLine index wanted) ⌝ }
-    ensures { λ _. ⌜ now (space .exit) ≡ putAt (now (space .entry)) at (wantedLine index wanted) ⌝ }
+// The lines of a file's plays from a place of the space on. They are all good, so that no play ends the lines early. Marks are made only for plays.
+fn put_plays(s: &[u8], map: Map, space: &mut [u8], from: usize) -> usize
+    requires { ⌜ GoodFile (now s) map ⌝ }
+    requires { ⌜ from ≤ length (now space) ⌝ }
+    ensures { λ r. ⌜ r ≡ behind (now (space .entry)) from (playsText (scoresOf (fileOf (now (s .entry))))) ⌝ }
+    ensures { λ _. ⌜ now (space .exit) ≡ putAt (now (space .entry)) from (playsText (scoresOf (fileOf (now (s .entry))))) ⌝ }
 {
-    match wanted {
-        Wanted::Ahead(_) => put_text(space, at, b""),
-        Wanted::Is(score) => {
-            let estimates = score.estimates;
-            put_play_line(space, at, index, estimates)
-        }
+    if map.end == s.len() {
+        return from;
     }
-}
-
-fn index_after(index: u64, wanted: Wanted) -> u64
-    requires { ⌜ index < 18446744073709551615 ⌝ }
-    ensures { λ r. ⌜ r ≡ indexAfter index wanted ⌝ }
-{
-    match wanted {
-        Wanted::Ahead(_) => index,
-        Wanted::Is(_) => index + 1,
-    }
-}
-
-// The lines of a file that is not refused. Each play is the wanted one while its record is read.
-fn put_lines(s: &[u8], space: &mut [u8], a: ScoreAttributes) -> usize
-    requires { ⌜ IsGood (scoresOf (fileOf (now s))) ⌝ }
-    ensures { λ r. ⌜ r ≡ behind (now (space .entry)) 0 (mapLine a ++ playsText (scoresOf (fileOf (now (s .entry))))) ⌝ }
-    ensures { λ _. ⌜ now (space .exit) ≡ putAt (now (space .entry)) 0 (mapLine a ++ playsText (scoresOf (fileOf (now (s .entry))))) ⌝ }
-{
-    let mut at = put_map_line(space, 0, a);
-    let mut walk = Walk::new(u64::MAX, 0);
+    let marks = marks_of(s, map);
+    let mut to = from;
+    let mut at = map.end;
     let mut index = 0;
-    while walk.reader.at < s.len() {
-        match step(s, walk, u64::MAX) {
-            Walked::Refused {
-                number: _,
-                offset: _,
-            } => {
-                return at;
-            }
-            Walked::Next(next) => {
-                let wanted = next.wanted;
-                at = put_wanted(space, at, index, wanted);
-                index = index_after(index, wanted);
-                let rest = Walk {
-                    wanted: Wanted::Ahead(0),
-                    ..next
-                };
-                walk = run_on(s, rest, u64::MAX);
-            }
-        }
+    while at < s.len() {
+        let PlayRead::Is(play) = play_at(s, at) else {
+            return to;
+        };
+        let i = mark_before(map.objects, play);
+        let Scored::Score(score) = score_from(s, map, marks.states[i], play) else {
+            return to;
+        };
+        let estimates = score.estimates;
+        to = put_play_line(space, to, index, estimates);
+        index += 1;
+        at += Play::SIZE;
     }
-    at
+    to
 }
 
 fn put_file(s: &[u8], space: &mut [u8]) -> usize
     ensures { λ r. ⌜ r ≡ behind (now (space .entry)) 0 (fileText (now (s .entry))) ⌝ }
     ensures { λ _. ⌜ now (space .exit) ≡ putAt (now (space .entry)) 0 (fileText (now (s .entry))) ⌝ }
 {
-    match score_map(s) {
-        MapScore::Refused { number, offset } => {
+    match check_plays(s, u64::MAX, 0) {
+        Plays::Refused { number, offset } => {
             put_refused_line(space, 0, number as u64, offset as u64)
         }
-        MapScore::Map(a) => put_lines(s, space, a),
+        Plays::Good(map, a, _) => {
+            let to = put_map_line(space, 0, a);
+            put_plays(s, map, space, to)
+        }
     }
 }
 

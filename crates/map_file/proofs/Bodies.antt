@@ -1,15 +1,13 @@
 -- The last check of a record, its bonus, on what the code keeps of the record.
 use mathlib.Core.Path.{_≡_, refl, sym, ap, _∙_}
-use mathlib.Core.Bool.{Bool, true, false}
+use mathlib.Core.Bool.{true, false}
 use Prim.Native.Nat.{ℕ}
-use native.Mathlib.Omega.{arith}
-use Rattle.rules.specs.Refusals.{Checked, good, refused, _>>=_, _>>_, refuse_when_}
-use Rattle.records.specs.Objects.{circle, slider, spinner, Kind, Object, kindView, kindBonus}
+use Rattle.rules.specs.Refusals.{good, refused, _>>=_, _>>_, refuse_when_}
+use Rattle.records.specs.Objects.{circle, slider, spinner, Kind, kindView, kindBonus}
 use Rattle.records.specs.Records.{Content, header, break, object, play, FoundRecord, contentView, recordRead}
 use Rattle.map_file.specs.Order.{overBonus, contentBonus}
 use Rattle.map_file.specs.View.{bonusIn, kindBonusIn}
 use Rattle.records.specs.declared.record.Record.{Record}
-use Rattle.records.specs.declared.record.Read.{Read}
 use Rattle.records.specs.declared.record.Read.the-variants.{Good, Refused}
 use Rattle.map_file.specs.declared.file.Counts.{Counts}
 use Rattle.rules.proofs.Laws.{never}

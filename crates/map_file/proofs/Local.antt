@@ -1,21 +1,21 @@
 -- A record is read from its own bytes: what follows them changes nothing. So the part of a file up to the end of a record is a file too.
-use mathlib.Core.Path.{_≡_, refl, sym, ap, ap₂, _∙_, subst}
+use mathlib.Core.Path.{_≡_, refl, sym, ap, _∙_, subst}
 use mathlib.Core.Bool.{Bool, true, false, not}
-use mathlib.Core.List.{List, [], _∷_, _++_}
-use Prim.Native.Nat.{ℕ, _+_, _-_, _≤_, _<_}
+use mathlib.Core.List.{List, _++_}
+use Prim.Native.Nat.{ℕ, _+_, _≤_}
 use native.Mathlib.Omega.{arith}
 use lib.Dec.{eqb, ltb}
 use lib.ListN.{length, take, drop, length-append, length-drop}
 use lib.Seq.{take-append-le, drop-append-le}
-use borrow.Author.Tests.{le-ltb, eqb-true, not-false}
+use borrow.Author.Tests.{le-ltb}
 use Rattle.numbers.specs.Words.{wordAt}
 use Rattle.numbers.proofs.words.Laws.{wordAt-within}
 use Rattle.rules.specs.Refusals.{Checked, good, refused, _>>=_, _>>_, refuse_when_, pick}
 use Rattle.play_state.specs.Play.{hitresultsOf}
-use Rattle.records.specs.Records.{Content, FoundRecord, CI, SL, SP, headerOf, breakOf, circleOf, nestedOf, sliderOf, spinnerOf, playOf, objectOf}
+use Rattle.records.specs.Records.{Content, FoundRecord, CI, SL, SP, headerOf, breakOf, circleOf, sliderOf, spinnerOf, playOf, objectOf}
 use Rattle.map_file.specs.Order.{MH, BR, PL, rankOf, inOrder, isFull, overBonus, contentBonus, bodyOf, recordOf}
 use Rattle.map_file.specs.declared.file.Counts.{Counts}
-use Rattle.rules.proofs.All.{All, none, that, all-any, all-bind, all-when, all-pick, all-out}
+use Rattle.rules.proofs.All.{All, that, all-any, all-when, all-out}
 use Rattle.rules.proofs.Laws.{never}
 
 module _ (p t : List ℕ) where

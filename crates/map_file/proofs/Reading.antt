@@ -1,29 +1,21 @@
--- A loop that reads a file record by record keeps the file read so far: its view is the reader, and reading on from it gives the whole file.
+-- The files that the definition reads one after the other, record by record: reading on from each of them gives the whole file.
 use mathlib.Core.Path.{_≡_, refl, sym, ap, _∙_, subst}
 use mathlib.Core.Bool.{Bool, true, false}
 use mathlib.Core.List.{List, [], _∷_, _++_}
 use Prim.Native.Nat.{ℕ, zero, suc, _+_, _-_, _≤_, _<_}
-use native.Mathlib.Numerals.{add-one}
-use native.Mathlib.Nat.{add-zero, le-trans}
+use native.Mathlib.Nat.{add-zero}
 use native.Mathlib.Omega.{arith}
-use lib.Dec.{ltb, eqb}
+use lib.Dec.{eqb}
 use lib.ListN.{length, take, drop, length-append, length-drop, take-append-drop}
 use lib.Seq.{drop-append-le, length-take-le}
-use borrow.Author.Tests.{lt-ltb, le-ltb, eq-eqb, ne-eqb}
-use Rattle.rules.specs.Refusals.{Checked, good, refused, pick}
+use borrow.Author.Tests.{lt-ltb, le-ltb, ne-eqb}
+use Rattle.rules.specs.Refusals.{good, refused, pick}
 use Rattle.records.specs.Objects.{Object, bonus, kindBonus}
-use Rattle.records.specs.Records.{Content, header, break, object, play, FoundRecord, contentView}
+use Rattle.records.specs.Records.{Content, header, break, object, play, FoundRecord}
 use Rattle.map_file.specs.Order.{recordOf}
-use Rattle.map_file.specs.File.{File, Result, accepted, refusedAt, countsOf, with-record, follow, ended, fileFrom, nothingRead, fileOf}
-use Rattle.map_file.specs.View.{countedIn, behind, stepOf, view, freshOf, answerOf}
-use Rattle.records.specs.declared.record.Record.{Record}
-use Rattle.map_file.specs.declared.file.Reader.{Reader}
-use Rattle.map_file.specs.declared.file.Step.{Step}
-use Rattle.map_file.specs.declared.file.Step.the-variants as step
-use Rattle.map_file.specs.declared.file.Answer.{Answer}
-use Rattle.map_file.specs.declared.file.Answer.the-variants as answer
-use Rattle.rules.proofs.All.{All, none, that, all-out}
-use Rattle.map_file.proofs.Bodies.{bonus-kept}
+use Rattle.map_file.specs.File.{File, accepted, refusedAt, countsOf, with-record, ended, fileFrom, nothingRead, fileOf}
+use Rattle.map_file.specs.View.{behind}
+use Rattle.rules.proofs.All.{that, all-out}
 use Rattle.map_file.proofs.Local.{record-in}
 use Rattle.map_file.proofs.Room.{placeOf, record-ordered}
 use Rattle.map_file.proofs.Sizes.{Sized, record-sized}
@@ -44,14 +36,6 @@ bonus-alone o = add-zero (kindBonus (o .kind))
 
 pub bonus-snoc : (os : List Object) (o : Object) → bonus (os ++ (o ∷ [])) ≡ bonus os + kindBonus (o .kind)
 bonus-snoc os o = bonus-append os (o ∷ []) ∙ ap (λ (n : ℕ). bonus os + n) (bonus-alone o)
-
--- the view goes with the file
-pub view-with : (f : File) (r : Content × ℕ) → view (with-record f r) ≡ behind (view f) r
-unfolding view with-record countsOf countedIn
-view-with f (header s, n) = refl
-view-with f (break b, n) = rw (length-snoc (f .map .breaks) b)
-view-with f (object o, n) = rw (length-snoc (f .map .objects) o, bonus-snoc (f .map .objects) o) (rw (sym (bonus-kept (object o))))
-view-with f (play p, n) = refl
 
 -- what the definition finds behind a file
 abbrev pub foundAt : List ℕ → File → FoundRecord
@@ -126,29 +110,6 @@ ended-is f g e = go (eqb (f .last) 0) e
     go true e = never (cc)
     go false e = cc
 
--- ---- an accepted file has no fewer objects than were read so far
-more-objects : (f : File) (r : Content × ℕ) → length (f .map .objects) ≤ length (with-record f r .map .objects)
-unfolding with-record
-more-objects f (header s, n) = omega arith
-more-objects f (break b, n) = omega arith
-more-objects f (object o, n) = let more = length-snoc (f .map .objects) o in omega (arith, more)
-more-objects f (play p, n) = omega arith
-
-from-fewer : (fuel : ℕ) (s : List ℕ) (f g : File) → fileFrom fuel s f ≡ accepted g → length (f .map .objects) ≤ length (g .map .objects)
-unfolding fileFrom
-from-fewer zero s f g e = never (cc)
-from-fewer (suc fuel) s f g e = go (λ r q. from-fewer fuel s (with-record f r) g q) (ltb (f .at) (length s)) (foundAt s f) e
-  where
-    go : ((r : Content × ℕ) → fileFrom fuel s (with-record f r) ≡ accepted g → length (with-record f r .map .objects) ≤ length (g .map .objects))
-        → (b : Bool) (x : FoundRecord) → pick b (follow f x (λ r. fileFrom fuel s (with-record f r))) (ended f) ≡ accepted g
-        → length (f .map .objects) ≤ length (g .map .objects)
-    go on false x e = let same = ap (λ (h : File). length (h .map .objects)) (ended-is f g e) in omega (arith, same)
-    go on true (refused n) e = never (cc)
-    go on true (good r) e = le-trans (more-objects f r) (on r e)
-
-pub on-fewer : (s : List ℕ) (f g : File) → On s f → fileOf s ≡ accepted g → length (f .map .objects) ≤ length (g .map .objects)
-on-fewer s f g on e = from-fewer (on .fuel) s f g (on .rest ∙ e)
-
 -- ---- the files that are read one after the other, record by record
 pub data Chain (s : List ℕ) : File → Type 0 where
   start : Chain s nothingRead
@@ -209,96 +170,3 @@ chain-plays s f (longer {f = g} {r = (header t, n)} c b e) h = chain-plays s g c
 chain-plays s f (longer {f = g} {r = (break x, n)} c b e) h = chain-plays s g c (omega (arith, found-ordered s g (break x, n) e))
 chain-plays s f (longer {f = g} {r = (object o, n)} c b e) h = chain-plays s g c (omega (arith, found-ordered s g (object o, n) e))
 chain-plays s f (longer {f = g} {r = (play p, n)} c b e) h = never (omega (arith, h))
-
--- ---- the loop's invariant: the reader is the view of what was read
-pub record Kept (s : List ℕ) (f : File) (reader : Reader) : Type 0 where
-  pub viewed : reader ≡ view f
-  pub chain : Chain s f
-
-pub kept-start : (s : List ℕ) → Kept s nothingRead freshOf
-unfolding view countsOf bonus
-kept-start s = record { viewed = refl; chain = start }
-
-at-view : (s : List ℕ) (f : File) → recordOf (drop (view f .at) s) (view f .counts) ≡ foundAt s f
-unfolding view
-at-view s f = refl
-
--- what the reader shows of the file
-pub record Seen (f : File) (reader : Reader) : Type 0 where
-  pub at : reader .at ≡ f .at
-  pub settings : reader .settings ≡ f .map .settings
-  pub last : reader .counts .last ≡ f .last
-  pub breaks : reader .counts .breaks ≡ length (f .map .breaks)
-  pub objects : reader .counts .objects ≡ length (f .map .objects)
-
-pub seen : (f : File) {reader : Reader} → reader ≡ view f → Seen f reader
-unfolding view countsOf
-seen f e = record {
-  at = ap (λ r. r .at) e;
-  settings = ap (λ r. r .settings) e;
-  last = ap (λ r. r .counts .last) e;
-  breaks = ap (λ r. r .counts .breaks) e;
-  objects = ap (λ r. r .counts .objects) e;
-}
-
--- a step of the loop: the record's content, and the file with it
-pub record Moved (s : List ℕ) (f : File) (reader : Reader) (item : Record) (next : Reader) : Type 0 where
-  pub content : Content × ℕ
-  pub found : foundAt s f ≡ good content
-  pub same : item ≡ contentView (content .0)
-  pub kept : Kept s (with-record f content) next
-  pub ahead : reader .at < next .at
-
-module _ (s : List ℕ) (f : File) (reader : Reader) (k : Kept s f reader) (h : reader .at < length s) where
-  before-end : f .at < length s
-  before-end = subst (λ (n : ℕ). n < length s) (seen f (k .viewed) .at) h
-
-  -- what the code was told, of the definition's find
-  told : {x : Step} → x ≡ stepOf reader (recordOf (drop (reader .at) s) (reader .counts)) → x ≡ stepOf (view f) (foundAt s f)
-  told e = e ∙ ap (λ r. stepOf r (recordOf (drop (r .at) s) (r .counts))) (k .viewed) ∙ ap (stepOf (view f)) (at-view s f)
-
-  pub kept-step : (item : Record) (next : Reader) → step.Next item next ≡ stepOf reader (recordOf (drop (reader .at) s) (reader .counts)) → Moved s f reader item next
-  kept-step item next e = go (foundAt s f) refl (told e)
-    where
-      moved : (r : Content × ℕ) → foundAt s f ≡ good r → item ≡ contentView (r .0) → next ≡ behind (view f) r → Moved s f reader item next
-      moved r q i n =
-          let viewed = n ∙ sym (view-with f r) in
-          let here = seen f (k .viewed) .at in
-          let there : next .at ≡ f .at + r .1 = seen (with-record f r) viewed .at ∙ with-at f r in
-          record {
-            content = r;
-            found = q;
-            same = i;
-            kept = record { viewed = viewed; chain = longer (k .chain) before-end q };
-            ahead = omega (arith, here, there, found-sized s f r q .0);
-          }
-
-      go : (x : FoundRecord) → foundAt s f ≡ x → step.Next item next ≡ stepOf (view f) x → Moved s f reader item next
-      go (refused n) q e = never (cc)
-      go (good r) q e = moved r q (cc) (cc)
-
-  pub kept-stop : (n at : ℕ) → step.Refused n at ≡ stepOf reader (recordOf (drop (reader .at) s) (reader .counts)) → fileOf s ≡ refusedAt n at f
-  kept-stop n at e = go (foundAt s f) refl (told e)
-    where
-      go : (x : FoundRecord) → foundAt s f ≡ x → step.Refused n at ≡ stepOf (view f) x → fileOf s ≡ refusedAt n at f
-      go (good r) q e = never (cc)
-      go (refused m) q e =
-          let i : n ≡ m = cc in
-          let a : at ≡ view f .at = cc in
-          on-stop s f m (chain-on s f (k .chain)) before-end q ∙ rw (i, a ∙ seen f refl .at)
-
--- ---- the answers at the end of the input
-module _ (s : List ℕ) (f : File) (reader : Reader) (k : Kept s f reader) (h : length s ≤ reader .at) where
-  pub all-read : fileOf s ≡ ended f
-  all-read = on-end s f (chain-on s f (k .chain)) (subst (λ (n : ℕ). length s ≤ n) (seen f (k .viewed) .at) h)
-
-  pub end-none : reader .counts .last ≡ 0 → answer.Refused 3 0 ≡ answerOf (fileOf s)
-  end-none e = rw all-read (simp (eq-eqb (f .last) 0 (sym (seen f (k .viewed) .last) ∙ e)))
-
-  pub end-map : (reader .counts .last ≡ 0 → ⊥) → answer.Map reader ≡ answerOf (fileOf s)
-  end-map e = rw all-read (simp (ne-eqb (f .last) 0 (λ z. e (seen f (k .viewed) .last ∙ z))) (ap answer.Map (k .viewed)))
-
--- some file was read so far
-pub record Reading (s : List ℕ) (reader : Reader) : Type 0 where
-  pub file : File
-  pub kept : Kept s file reader

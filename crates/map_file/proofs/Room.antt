@@ -1,6 +1,6 @@
 -- A record that is read leaves the counts within their limits: the checks 6 and 7 ask just that.
-use mathlib.Core.Path.{_≡_, refl, sym, ap, _∙_}
-use mathlib.Core.Bool.{Bool, true, false, _&&_}
+use mathlib.Core.Path.{_≡_, sym, ap}
+use mathlib.Core.Bool.{true, false}
 use mathlib.Core.List.{List}
 use Prim.Native.Nat.{ℕ, _+_, _≤_, _<_}
 use native.Mathlib.Omega.{arith}
@@ -8,11 +8,9 @@ use lib.Dec.{eqb, leb, ltb}
 use borrow.Author.Tests.{leb-true, leb-false, ltb-true, ltb-false, eqb-true, not-false}
 use Rattle.rules.specs.Limits.{maxBreaks, maxObjects, maxBonus}
 use Rattle.numbers.specs.Words.{wordAt}
-use Rattle.rules.specs.Refusals.{Checked, good, refused}
-use Rattle.records.specs.Objects.{Object}
-use Rattle.records.specs.Records.{Content, header, break, object, play, FoundRecord, CI, SL, SP, headerOf, breakOf, circleOf, sliderOf, spinnerOf, playOf, objectOf, contentView}
+use Rattle.records.specs.Records.{Content, header, break, object, play, CI, SL, SP, headerOf, breakOf, circleOf, sliderOf, spinnerOf, playOf, objectOf, contentView}
 use Rattle.map_file.specs.Order.{MH, BR, PL, rankOf, inOrder, isFull, overBonus, contentBonus, bodyOf, recordOf}
-use Rattle.map_file.specs.View.{Fits, bonusIn}
+use Rattle.map_file.specs.View.{Fits}
 use Rattle.map_file.specs.declared.file.Counts.{Counts}
 use Rattle.rules.proofs.All.{All, none, that, all-bind, all-any, all-when, all-pick}
 use Rattle.map_file.proofs.Bodies.{bonus-kept}

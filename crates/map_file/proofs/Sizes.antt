@@ -1,15 +1,14 @@
 -- A record that is read has at least its mark, and ends within the input; all but sliders have one size for each kind.
 use mathlib.Core.Path.{_≡_, refl}
-use mathlib.Core.Bool.{Bool, true, false}
+use mathlib.Core.Bool.{false}
 use mathlib.Core.List.{List}
-use Prim.Native.Nat.{ℕ, _+_, _≤_, _<_}
+use Prim.Native.Nat.{ℕ, _+_, _≤_}
 use native.Mathlib.Omega.{arith}
 use lib.Dec.{eqb, ltb}
 use lib.ListN.{length}
 use borrow.Author.Tests.{ltb-false}
 use Rattle.numbers.specs.Words.{wordAt}
-use Rattle.rules.specs.Refusals.{Checked, good, refused}
-use Rattle.records.specs.Records.{Content, header, break, object, play, FoundRecord, CI, SL, SP, headerOf, breakOf, circleOf, sliderOf, spinnerOf, playOf, objectOf}
+use Rattle.records.specs.Records.{Content, header, break, object, play, CI, SL, SP, headerOf, breakOf, circleOf, sliderOf, spinnerOf, playOf, objectOf}
 use Rattle.map_file.specs.Order.{MH, BR, PL, bodyOf, recordOf}
 use Rattle.map_file.specs.declared.file.Counts.{Counts}
 use Rattle.rules.proofs.All.{All, none, that, all-bind, all-any, all-when, all-pick}

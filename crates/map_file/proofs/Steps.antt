@@ -1,12 +1,12 @@
 -- From what the code read to what the definition found: one record of a file.
-use mathlib.Core.Path.{_≡_, refl, sym, ap, _∙_, subst}
+use mathlib.Core.Path.{_≡_}
 use mathlib.Core.List.{List}
-use Prim.Native.Nat.{ℕ, _+_, _-_, _≤_, _<_}
+use Prim.Native.Nat.{ℕ, _+_, _-_, _≤_}
 use native.Mathlib.Omega.{arith}
 use lib.ListN.{length, take, drop, length-drop}
 use lib.Seq.{take-all}
-use Rattle.rules.specs.Refusals.{Checked, good, refused}
-use Rattle.records.specs.Records.{Content, FoundRecord, contentView, recordRead}
+use Rattle.rules.specs.Refusals.{good, refused}
+use Rattle.records.specs.Records.{FoundRecord, contentView, recordRead}
 use Rattle.map_file.specs.View.{Fits, stepOf, settingsAfter, countedIn}
 use Rattle.records.specs.declared.beatmap.Settings.{Settings}
 use Rattle.records.specs.declared.record.Record.{Record}

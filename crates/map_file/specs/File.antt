@@ -1,6 +1,5 @@
 -- A map file as a whole: its map (settings, breaks and objects) and its plays, or the first refusal.
 use Prim.Native.Nat.{ℕ, zero, suc, _+_}
-use mathlib.Core.Bool.{Bool, true, false}
 use mathlib.Core.List.{List, [], _∷_, _++_}
 use lib.Dec.{eqb, ltb}
 use lib.ListN.{length, drop}

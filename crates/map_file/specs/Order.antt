@@ -1,11 +1,11 @@
 -- Document 01, "Records of the map file" and "What a caller gets": the order of the records, and the checks of one record.
 use Prim.Native.Nat.{ℕ, _+_}
-use mathlib.Core.Bool.{Bool, true, false, not, _&&_}
+use mathlib.Core.Bool.{Bool, false, not, _&&_}
 use mathlib.Core.List.{List}
 use lib.Dec.{eqb, leb, ltb}
 use Rattle.rules.specs.Limits.{maxObjects, maxBreaks, maxBonus, markSize}
 use Rattle.numbers.specs.Words.{wordAt}
-use Rattle.rules.specs.Refusals.{Checked, good, refused, _>>=_, _>>_, refuse_when_, pick, CUT, MARK, COUNT, BONUS}
+use Rattle.rules.specs.Refusals.{good, _>>=_, _>>_, refuse_when_, pick, CUT, MARK, COUNT, BONUS}
 use Rattle.records.specs.Fields.{cut}
 use Rattle.records.specs.Objects.{kindBonus}
 use Rattle.records.specs.Records.{Content, header, break, object, play, FoundRecord, CI, SL, SP, headerOf, breakOf, playOf, objectOf}

@@ -1,14 +1,12 @@
 -- What the code keeps of a file: offsets and counts in place of the lists.
 use Prim.Native.Nat.{ℕ, _+_, _≤_, _<_}
-use mathlib.Core.Bool.{Bool, true, false}
-use mathlib.Core.List.{List}
 use lib.Ieee.{binary32, ofBits}
 use Rattle.map_file.specs.Order.{noRank, headerRank, breakRank, objectRank, playRank}
 use Rattle.rules.specs.Limits.{maxBreaks, maxObjects, maxBonus}
 use Rattle.spinner.specs.Bonus.{legacyOf}
-use Rattle.rules.specs.Refusals.{Checked, good, refused}
+use Rattle.rules.specs.Refusals.{good, refused}
 use Rattle.records.specs.Records.{Content, FoundRecord, contentView}
-use Rattle.map_file.specs.File.{File, Result, accepted, refusedAt, countsOf, fileOf}
+use Rattle.map_file.specs.File.{File, countsOf}
 use Rattle.records.specs.declared.beatmap.Settings.{Settings}
 use Rattle.records.specs.declared.hit_object.HitObjectKind.{HitObjectKind}
 use Rattle.records.specs.declared.hit_object.HitObjectKind.the-variants as kind
@@ -18,8 +16,6 @@ use Rattle.map_file.specs.declared.file.Counts.{Counts}
 use Rattle.map_file.specs.declared.file.Reader.{Reader}
 use Rattle.map_file.specs.declared.file.Step.{Step}
 use Rattle.map_file.specs.declared.file.Step.the-variants as step
-use Rattle.map_file.specs.declared.file.Answer.{Answer}
-use Rattle.map_file.specs.declared.file.Answer.the-variants as answer
 
 abbrev pub kindBonusIn : HitObjectKind → ℕ
 kindBonusIn kind.Circle = 0
@@ -71,7 +67,3 @@ view f = record { at = f .at; settings = f .map .settings; counts = countsOf f }
 -- that of a fresh file
 abbrev pub freshOf : Reader
 freshOf = record { at = 0; settings = record { hp = ofBits binary32 0; od = ofBits binary32 0; cs = ofBits binary32 0 }; counts = record { last = noRank; breaks = 0; objects = 0; bonus = 0 } }
-
-abbrev pub answerOf : Result → Answer
-answerOf (accepted f) = answer.Map (view f)
-answerOf (refusedAt n at f) = answer.Refused n at

@@ -1,11 +1,12 @@
-// The whole map file: records in their order, counted, up to the end of the input or the first refusal.
+// The next record of a map file, by all its checks: the order, the counts, the record itself and the bonus.
 use numbers::words::word_at;
-use records::beatmap;
 use records::beatmap::BreakPeriod;
 use records::beatmap::Settings;
 use records::hit_object;
 use records::hit_object::HitObject;
 use records::hit_object::HitObjectKind;
+use records::map_record;
+use records::object_record;
 use records::play_record;
 use records::record::Read;
 use records::record::Record;
@@ -15,8 +16,7 @@ ghost use Prim.Native.Nat.{_+_, _≤_, _<_};
 ghost use lib.ListN.{length, drop};
 ghost use Rattle.records.specs.Records.{recordRead};
 ghost use Rattle.map_file.specs.Order.{rankOf, inOrder, isFull, overBonus, bodyOf, recordOf};
-ghost use Rattle.map_file.specs.File.{fileOf};
-ghost use Rattle.map_file.specs.View.{bonusIn, countedIn, Fits, settingsAfter, stepOf, freshOf, answerOf};
+ghost use Rattle.map_file.specs.View.{bonusIn, countedIn, Fits, settingsAfter, stepOf};
 
 pub const MH: u64 = 0x484d;
 
@@ -53,32 +53,6 @@ pub struct Reader {
 pub enum Step {
     Next(Record, Reader),
     Refused { number: u8, offset: usize },
-}
-
-pub enum Answer {
-    Map(Reader),
-    Refused { number: u8, offset: usize },
-}
-
-impl Reader {
-    pub fn new() -> Self
-        ensures { λ r. ⌜ r ≡ freshOf ⌝ }
-    {
-        Reader {
-            at: 0,
-            settings: Settings {
-                hp: 0.0,
-                od: 0.0,
-                cs: 0.0,
-            },
-            counts: Counts {
-                last: NO_RANK,
-                breaks: 0,
-                objects: 0,
-                bonus: 0,
-            },
-        }
-    }
 }
 
 // The place of a mark.
@@ -131,15 +105,15 @@ fn read_body(r: &[u8], mark: u64) -> Read
     ensures { λ x. ⌜ x ≡ recordRead (bodyOf (now (r .entry)) mark) ⌝ }
 {
     if mark == MH {
-        return beatmap::read_header(r);
+        return map_record::read_header(r);
     }
     if mark == BR {
-        return beatmap::read_break(r);
+        return map_record::read_break(r);
     }
     if mark == PL {
         return play_record::read_play(r);
     }
-    hit_object::read_object(r, mark)
+    object_record::read_object(r, mark)
 }
 
 // The legacy bonus points of a record: a spinner's.
@@ -259,28 +233,4 @@ pub fn read_record(s: &[u8], reader: Reader) -> Step
             },
         ),
     }
-}
-
-// The map file: its sums, or the first refusal.
-pub fn read_map(s: &[u8]) -> Answer
-    ensures { λ r. ⌜ r ≡ answerOf (fileOf (now (s .entry))) ⌝ }
-{
-    let mut reader = Reader::new();
-    while reader.at < s.len() {
-        match read_record(s, reader) {
-            Step::Next(_, next) => {
-                reader = next;
-            }
-            Step::Refused { number, offset } => {
-                return Answer::Refused { number, offset };
-            }
-        }
-    }
-    if reader.counts.last == NO_RANK {
-        return Answer::Refused {
-            number: refusal::MARK,
-            offset: 0,
-        };
-    }
-    Answer::Map(reader)
 }

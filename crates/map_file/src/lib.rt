@@ -1,2 +1,2 @@
-// The map file as a whole: the order of its records, their counts and limits, and the first refusal.
-pub mod file; // the order of the records, the whole file
+// The records of a map file in their order: their counts and limits, and all checks of one record behind others.
+pub mod file; // the order of the records, the checks of one

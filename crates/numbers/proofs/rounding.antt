@@ -2,5 +2,6 @@
 pub mod Bounded
 pub mod Closest
 pub mod Cutting
+mod Added
 mod Even
 mod Range

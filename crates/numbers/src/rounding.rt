@@ -13,6 +13,14 @@ const I32_MAX: u64 = 2147483647;
 // 2 ^ 31, the first whole number that no i32 holds.
 const I32_LIMIT: u64 = I32_MAX + 1;
 
+// 2 ^ 30: up to this size x is rounded by a sum.
+const NEAR: f64 = 1073741824.0;
+
+// 3 * 2 ^ 51. Near it the floats are the whole numbers, so a sum with it is rounded to one, and a tie to an even one.
+const WHOLES: f64 = 6755399441055744.0;
+
+const WHOLES_BITS: i64 = 0x4338_0000_0000_0000;
+
 // The whole number nearest to significand / 2 ^ shift, the even one of two that are as near.
 fn shift_ties_even(significand: u64, shift: u64) -> u64
     requires { ⌜ significand < 2 ^ 53 ⌝ }
@@ -60,8 +68,8 @@ fn saturate_i32(negative: bool, n: u64) -> i32
     n as i32
 }
 
-// Rust's `x.round_ties_even() as i32`.
-pub fn round_ties_even_i32(x: f64) -> i32
+// By the parts of x, for an x of any size.
+fn round_parts(x: f64) -> i32
     ensures { λ r. ⌜ r ≡ roundTiesEvenI32 x ⌝ }
 {
     let parts = split(x);
@@ -73,6 +81,17 @@ pub fn round_ties_even_i32(x: f64) -> i32
             significand,
             exponent,
         } => saturate_i32(negative, magnitude(significand, exponent)),
+    }
+}
+
+// Rust's `x.round_ties_even() as i32`. The sum is x rounded, and its bits are as many above those of WHOLES.
+pub fn round_ties_even_i32(x: f64) -> i32
+    ensures { λ r. ⌜ r ≡ roundTiesEvenI32 x ⌝ }
+{
+    if (x >= -NEAR) & (x <= NEAR) {
+        (f64::to_bits(x + WHOLES) as i64 - WHOLES_BITS) as i32
+    } else {
+        round_parts(x)
     }
 }
 

@@ -3,12 +3,14 @@ use mathlib.Core.Path.{_≡_, refl, sym, ap, ap₂, _∙_}
 use mathlib.Core.Bool.{Bool, true, false}
 use mathlib.Core.List.{List, [], _∷_}
 use Prim.Native.Nat.{ℕ, zero, suc, _+_, _-_, _≤_, _<_}
+use native.Mathlib.Nat.{lt-of-not-le}
 use native.Mathlib.Numerals.{add-one}
 use native.Mathlib.Omega.{arith}
-use borrow.Author.Tests.{eq-eqb, ne-eqb}
+use borrow.Author.Tests.{eq-eqb, ne-eqb, ltb-true, ltb-false}
+use lib.Bits.{bitAnd, bitOr, and-mask, and-le-l, and-le-r, or-add-and, or-lt}
 use lib.ListN.{length, getD, take, drop, drop-of-length-le, length-drop}
 use lib.Seq.{drop-cons}
-use lib.Dec.{eqb}
+use lib.Dec.{eqb, ltb}
 use lib.Ieee.{Float}
 use Rattle.rules.specs.Refusals.{Checked, good, refused, _>>=_, pick}
 use Rattle.records.specs.Objects.{Item, tick, repeat, slider, repeats, ticks, sliderView}
@@ -17,8 +19,8 @@ use Rattle.records.specs.declared.hit_object.Slider.{Slider}
 use Rattle.records.specs.declared.hit_object.HitObjectKind.the-variants.{Slider as SliderKind}
 use Rattle.records.specs.declared.record.Record.the-variants.{Object as ObjectRecord}
 use Rattle.records.specs.declared.record.Read.the-variants.{Good}
-use Rattle.records.specs.declared.hit_object.Nested.{Nested}
-use Rattle.records.specs.declared.hit_object.Nested.the-variants.{Counts, Wrong}
+use Rattle.records.specs.declared.object_record.Nested.{Nested}
+use Rattle.records.specs.declared.object_record.Nested.the-variants.{Counts, Wrong}
 
 -- what is left of a list, with r repeats and t ticks before it
 unfoldable pub counted : ℕ → ℕ → Checked (List Item) → Nested
@@ -86,6 +88,51 @@ module _ (items : List ℕ) (i : ℕ) where
   pub no-tail : (r t : ℕ) → i + 1 ≡ length items → (getD items i 0 ≡ 2 → ⊥) → counted r t (nestedOf (drop i items)) ≡ Wrong
   unfolding nestedOf counted
   no-tail r t h k = rw (alone h) (simp (ne-eqb _ _ k))
+
+-- ---- the loop's counters
+-- after i items: `high` is above 1 just if one of them is, and `ones` is how many are odd
+pub record Passed (items : List ℕ) (ones high i : ℕ) : Type 0 where
+  pub right : high ≤ 1 → nestedView (nestedOf items) ≡ counted ones (i - ones) (nestedOf (drop i items))
+  pub over : 1 < high → nestedView (nestedOf items) ≡ Wrong
+  pub few : ones ≤ i
+
+pub passed-none : (items : List ℕ) → Passed items 0 0 0
+passed-none items = record { right = λ h. counted-none (nestedOf items); over = λ h. absurd (omega arith); few = omega arith }
+
+or-above-l : (a b : ℕ) → a ≤ bitOr a b
+or-above-l a b = omega (arith, or-add-and a b, and-le-r a b)
+
+or-above-r : (a b : ℕ) → b ≤ bitOr a b
+or-above-r a b = omega (arith, or-add-and a b, and-le-l a b)
+
+low-bit : (b : ℕ) → b ≤ 1 → bitAnd b 1 ≡ b
+low-bit b h = and-mask b 1 ∙ omega arith
+
+pub passed-next : (items : List ℕ) (ones high i : ℕ) → i + 1 < length items → Passed items ones high i
+    → Passed items (ones + bitAnd (getD items i 0) 1) (bitOr high (getD items i 0)) (i + 1)
+passed-next items ones high i h p =
+    let b = getD items i 0 in
+    let bit = bitAnd b 1 in
+    let few = p .few in
+    let one : bit ≤ 1 = and-le-r b 1 in
+    record {
+      right = λ k.
+          let low : high ≤ 1 = omega (arith, or-above-l high b) in
+          let small : b ≤ 1 = omega (arith, or-above-r high b) in
+          let own = low-bit b small in
+          p .right low ∙ step items i ones (i - ones) (ones + bit) (i + 1 - (ones + bit)) h small (omega (arith, own)) (omega (arith, own, few));
+      over = λ k. wrong-now (ltb 1 high) refl k;
+      few = omega (arith, few, one);
+    }
+  where
+    above : (a b : ℕ) → a ≤ 1 → 1 < bitOr a b → 1 < b
+    above a b low k = lt-of-not-le (λ (small : b ≤ 1). omega (arith, or-lt 1 a b (omega arith) (omega arith)))
+
+    wrong-now : (t : Bool) → ltb 1 high ≡ t → 1 < bitOr high (getD items i 0) → nestedView (nestedOf items) ≡ Wrong
+    wrong-now true e k = p .over (ltb-true 1 high e)
+    wrong-now false e k =
+        let low : high ≤ 1 = ltb-false 1 high e in
+        p .right low ∙ stop items i ones (i - ones) h (above high (getD items i 0) low k)
 
 -- ---- what a slider's record makes of its list
 data Five {A : Type 0} : Checked A → Type 0 where

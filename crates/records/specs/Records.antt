@@ -14,8 +14,8 @@ use Rattle.records.specs.Objects.{Item, tick, repeat, circle, slider, sp
 use Rattle.play_state.specs.Play.{originOf, scoreOf, flagsBad, hitresultsOf, originChecked, scoreChecked}
 use Rattle.records.specs.declared.beatmap.Settings.{Settings}
 use Rattle.records.specs.declared.beatmap.BreakPeriod.{BreakPeriod}
-use Rattle.records.specs.declared.hit_object.Nested.{Nested}
-use Rattle.records.specs.declared.hit_object.Nested.the-variants.{Counts, Wrong}
+use Rattle.records.specs.declared.object_record.Nested.{Nested}
+use Rattle.records.specs.declared.object_record.Nested.the-variants.{Counts, Wrong}
 use Rattle.play_state.specs.declared.Play.{Play}
 use Rattle.records.specs.declared.record.Record.{Record}
 use Rattle.records.specs.declared.record.Record.the-variants.{Header, Break, Object as ObjectRecord, Play as PlayRecord}

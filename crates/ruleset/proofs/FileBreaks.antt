@@ -24,7 +24,7 @@ use Rattle.ruleset.specs.Drain.{breaksFrom, breaksIn}
 use Rattle.ruleset.proofs.Breaks.{between}
 
 -- ---- one record
-time-is : (b : ℕ) → All (λ x. x ≡ ofBits binary64 b) (timed (timeOf b))
+pub time-is : (b : ℕ) → All (λ x. x ≡ ofBits binary64 b) (timed (timeOf b))
 time-is b = go (le (neg timeLimit) (ofBits binary64 b) && le (ofBits binary64 b) timeLimit)
   where
     go : (t : Bool) → All (λ x. x ≡ ofBits binary64 b) (timed (pick t (double.Is (ofBits binary64 b)) double.Bad))
@@ -57,7 +57,7 @@ body-marked r m =
     all-pick (eqb m PL) (λ _. all-when 2 _ _ (λ _. all-any _ _ (λ o. all-any _ _ (λ s. all-when 8 _ _ (λ _. all-any _ _ (λ x. that tt)))))) (λ _. object-marked r m)))
 
 -- and where they stand in the order
-abbrev Placed : List ℕ → ℕ → Content → ℕ → Type 0
+abbrev pub Placed : List ℕ → ℕ → Content → ℕ → Type 0
 Placed r last (header s) n = (last ≡ 0) × (n ≡ 14)
 Placed r last (break b) n = (0 < last) × (last ≤ 2) × (n ≡ 18) × (b ≡ breakAt r 0)
 Placed r last (object o) n = Unit
@@ -73,7 +73,7 @@ placed r last m (break b) n o h = let p = both (ltb 0 last) (leb last 2) (rw (h 
 placed r last m (object o) n e h = tt
 placed r last m (play p) n e h = tt
 
-record-placed : (r : List ℕ) (c : Counts) → All (λ f. Placed r (c .last) (f .0) (f .1)) (recordOf r c)
+pub record-placed : (r : List ℕ) (c : Counts) → All (λ f. Placed r (c .last) (f .0) (f .1)) (recordOf r c)
 unfolding recordOf
 record-placed r c =
     all-when 2 _ _ (λ _. all-when 3 _ _ (λ order. all-when 6 _ _ (λ _.

@@ -4,39 +4,31 @@ use mathlib.Core.List.{List, [], _∷_}
 use Prim.Native.Nat.{ℕ, zero, suc, min}
 use native.Mathlib.Omega.{arith}
 use lib.ListN.{length}
-use Rattle.rules.specs.Refusals.{Checked, good, refused}
-use Rattle.map_file.specs.File.{Map, File, Result, accepted, refusedAt, fileOf}
+use Rattle.map_file.specs.File.{File, Map as MapData, Result, accepted, refusedAt, fileOf}
 use Rattle.play_state.specs.declared.Play.{Play}
 use Rattle.encoding.specs.Limits.{MapWithin}
 use Rattle.encoding.proofs.Accepted.{accepted-within}
 use Rattle.simulator.specs.Attributes.{scoreAttributesAt}
-use Rattle.file_sums.specs.Sums.{simulatedOf}
 use Rattle.simulator.specs.declared.attributes.ScoreAttributes.{ScoreAttributes}
-use Rattle.file_sums.specs.declared.simulate.Simulated.the-variants as simulated
-use Rattle.file_sums.proofs.Passed.{attributes-passed}
-use Rattle.play_score.specs.PlayRules.{playScore, scoredOf, givenAnswer, givenScore}
+use Rattle.map_reader.specs.Map.{MapIs, MapReadOf, refuses as map-refuses}
+use Rattle.map_reader.specs.declared.map.Map.{Map}
+use Rattle.map_reader.specs.declared.map.MapRead.the-variants as map·read
+use Rattle.play_reader.proofs.Playing.{map-same}
+use Rattle.map_reader.proofs.Passed.{attributes-passed}
+use Rattle.play_score.specs.PlayRules.{givenAnswer, givenScore}
 use Rattle.scoring.specs.Scores.{Outcome, refusal, values, then, Scores, playScores, scoresOf, mapScoreOf, givenPlayOf, playAt, listedPlayOf}
-use Rattle.scoring.specs.View.{scoredIn, wantedOf, playsOf}
+use Rattle.scoring.specs.View.{wantedOf, checkedOf, PlaysOf, good, refuses}
 use Rattle.play_score.specs.declared.PlayScore.{PlayScore}
-use Rattle.play_score.specs.declared.Scored.{Scored}
-use Rattle.play_score.specs.declared.Scored.the-variants as scored
 use Rattle.scoring.specs.declared.plays.Wanted.{Wanted}
 use Rattle.scoring.specs.declared.plays.Wanted.the-variants as wanted
+use Rattle.scoring.specs.declared.plays.Checked.the-variants as checked
 use Rattle.scoring.specs.declared.plays.Plays.the-variants as answer
 use Rattle.scoring.specs.declared.score.MapScore.the-variants as map·score
 use Rattle.play_score.specs.declared.GivenPlay.{GivenPlay}
 use Rattle.play_score.specs.declared.GivenPlay.the-variants as given
 use Rattle.scoring.specs.declared.score.ListedPlay.the-variants as listed
+use Rattle.scoring.proofs.Lists.{scores-none}
 use Rattle.rules.proofs.Laws.{never}
-
--- ---- a play on what the file before it holds
-pub in-refused : (r : Result) (p : Play) (n at : ℕ) → simulated.Refused n at ≡ simulatedOf r (p .«passed_objects») → scored.Refused n ≡ scoredIn r p
-in-refused (accepted f) p n at e = never (cc)
-in-refused (refusedAt m o f) p n at e = let k : n ≡ m = cc in ap scored.Refused k
-
-pub in-map : (r : Result) (p : Play) (a : ScoreAttributes) (x : Scored) → simulated.Map a ≡ simulatedOf r (p .«passed_objects») → x ≡ scoredOf (playScore p a) → x ≡ scoredIn r p
-in-map (accepted f) p a x e q = let k : a ≡ scoreAttributesAt (f .map) (p .«passed_objects») = cc in q ∙ ap (λ b. scoredOf (playScore p b)) k
-in-map (refusedAt m o f) p a x e q = never (cc)
 
 -- ---- a file that gets no number
 pub record NoNumber (s : List ℕ) (sc : Scores) : Type 0 where
@@ -80,55 +72,60 @@ wanted-not (s ∷ ss) zero n e = never (cc)
 wanted-not (s ∷ ss) (suc j) n e = wanted-not ss j n e
 
 -- ---- the answers of the calls
--- a refusal goes through
-module _ (p i : ℕ) (x : Outcome Scores) (n at : ℕ) (e : answer.Refused n at ≡ playsOf p i x) where
-  pub refusal-is : refusal n at ≡ x
-  refusal-is = go x e
-    where
-      go : (x : Outcome Scores) → answer.Refused n at ≡ playsOf p i x → refusal n at ≡ x
-      go (refusal k o) e = let a : n ≡ k = cc in let b : at ≡ o = cc in rw (a, b)
-      go (values s) e = never (cc)
+pub plays-refused : {s : List ℕ} {p i n at : ℕ} → PlaysOf s p i (answer.Refused n at) → scoresOf (fileOf s) ≡ refusal n at
+plays-refused (refuses e) = e
 
-  pub map-refused : map·score.Refused n at ≡ mapScoreOf x
-  map-refused = ap mapScoreOf refusal-is
+pub map-refused : (s : List ℕ) (p i n at : ℕ) → PlaysOf s p i (answer.Refused n at) → map·score.Refused n at ≡ mapScoreOf (scoresOf (fileOf s))
+map-refused s p i n at k = sym (ap mapScoreOf (plays-refused k))
 
-  pub play-refused : (q : Play) → given.Refused n at ≡ givenPlayOf q x
-  play-refused q = ap (givenPlayOf q) refusal-is
+pub play-refused : (s : List ℕ) (p i n at : ℕ) → PlaysOf s p i (answer.Refused n at) → (q : Play) → given.Refused n at ≡ givenPlayOf q (scoresOf (fileOf s))
+play-refused s p i n at k q = sym (ap (givenPlayOf q) (plays-refused k))
 
-  pub listed-refused : listed.Refused n at ≡ listedPlayOf i x
-  listed-refused = ap (listedPlayOf i) refusal-is
-
--- the values of a file without a refusal
-pub record Good (p i : ℕ) (x : Outcome Scores) (a : ScoreAttributes) (w : Wanted) : Type 0 where
-  pub scores : Scores
-  pub is : x ≡ values scores
-  pub attributes : a ≡ scoreAttributesAt (scores .map) p
-  pub wanted : w ≡ wantedOf i (scores .plays)
-
-pub good-is : (p i : ℕ) (x : Outcome Scores) (a : ScoreAttributes) (w : Wanted) → answer.Good a w ≡ playsOf p i x → Good p i x a w
-good-is p i (refusal n at) a w e = never (cc)
-good-is p i (values s) a w e = record { scores = s; is = refl; attributes = cc; wanted = cc }
+pub listed-refused : (s : List ℕ) (p i n at : ℕ) → PlaysOf s p i (answer.Refused n at) → listed.Refused n at ≡ listedPlayOf i (scoresOf (fileOf s))
+listed-refused s p i n at k = sym (ap (listedPlayOf i) (plays-refused k))
 
 -- 2 ^ 64 - 1 passed objects are all
-pub map-scored : (s : List ℕ) (i : ℕ) (a : ScoreAttributes) (w : Wanted) → answer.Good a w ≡ playsOf 18446744073709551615 i (scoresOf (fileOf s))
+pub map-scored : (s : List ℕ) (i : ℕ) (m : Map) (a : ScoreAttributes) (w : Wanted) → PlaysOf s 18446744073709551615 i (answer.Good m a w)
     → map·score.Map a ≡ mapScoreOf (scoresOf (fileOf s))
-map-scored s i a w e =
-    let k = good-is 18446744073709551615 i (scoresOf (fileOf s)) a w e in
-    let m = k .scores .map in
-    let few = values-within s (k .scores) (k .is) .few-objects in
-    let all : min 18446744073709551615 (length (m .objects)) ≡ min (length (m .objects)) (length (m .objects)) = omega (arith, few) in
-    ap map·score.Map (k .attributes ∙ attributes-passed m 18446744073709551615 (length (m .objects)) all) ∙ sym (ap mapScoreOf (k .is))
+map-scored s i m a w (good k x e same attributes wanted) =
+    let few = values-within s x e .few-objects in
+    let n = length (x .map .objects) in
+    let all : min 18446744073709551615 n ≡ min n n = omega (arith, few) in
+    ap map·score.Map (attributes ∙ attributes-passed (x .map) 18446744073709551615 n all) ∙ sym (ap mapScoreOf e)
 
-module _ (p i : ℕ) (x : Outcome Scores) (a : ScoreAttributes) (w : Wanted) (e : answer.Good a w ≡ playsOf p i x) where
-  abbrev k : Good p i x a w
-  k = good-is p i x a w e
+pub play-scored : (s : List ℕ) (p i : ℕ) (m : Map) (a : ScoreAttributes) (w : Wanted) → PlaysOf s p i (answer.Good m a w) → (q : Play) (r : GivenPlay) → p ≡ q .«passed_objects»
+    → r ≡ givenAnswer (givenScore q a) → r ≡ givenPlayOf q (scoresOf (fileOf s))
+play-scored s p i m a w (good k x e same attributes wanted) q r passed h =
+    h ∙ ap (λ (b : ScoreAttributes). givenAnswer (givenScore q b)) (attributes ∙ ap (scoreAttributesAt (x .map)) passed) ∙ sym (ap (givenPlayOf q) e)
 
-  pub play-scored : (q : Play) (r : GivenPlay) → p ≡ q .«passed_objects» → r ≡ givenAnswer (givenScore q a) → r ≡ givenPlayOf q x
-  play-scored q r same h =
-      h ∙ ap (λ (b : ScoreAttributes). givenAnswer (givenScore q b)) (k .attributes ∙ ap (scoreAttributesAt (k .scores .map)) same) ∙ sym (ap (givenPlayOf q) (k .is))
+pub listed-scored : (s : List ℕ) (p i : ℕ) (m : Map) (a : ScoreAttributes) (w : Wanted) → PlaysOf s p i (answer.Good m a w) → (y : PlayScore) → w ≡ wanted.Is y
+    → listed.Score y ≡ listedPlayOf i (scoresOf (fileOf s))
+listed-scored s p i m a w (good k x e same attributes wanted) y h = wanted-is (x .plays) i y (sym h ∙ wanted) ∙ sym (ap (listedPlayOf i) e)
 
-  pub listed-scored : (s : PlayScore) → w ≡ wanted.Is s → listed.Score s ≡ listedPlayOf i x
-  listed-scored s q = wanted-is (k .scores .plays) i s (sym q ∙ k .wanted) ∙ sym (ap (listedPlayOf i) (k .is))
+pub listed-none : (s : List ℕ) (p i : ℕ) (m : Map) (a : ScoreAttributes) (w : Wanted) → PlaysOf s p i (answer.Good m a w) → (n : ℕ) → w ≡ wanted.Ahead n
+    → listed.NoPlay ≡ listedPlayOf i (scoresOf (fileOf s))
+listed-none s p i m a w (good k x e same attributes wanted) n h = wanted-not (x .plays) i n (sym h ∙ wanted) ∙ sym (ap (listedPlayOf i) e)
 
-  pub listed-none : (n : ℕ) → w ≡ wanted.Ahead n → listed.NoPlay ≡ listedPlayOf i x
-  listed-none n q = wanted-not (k .scores .plays) i n (sym q ∙ k .wanted) ∙ sym (ap (listedPlayOf i) (k .is))
+-- ---- what the check of a file's plays answers
+pub start-refused : {s : List ℕ} {p i n at : ℕ} → MapReadOf s p (map·read.Refused n at) → PlaysOf s p i (answer.Refused n at)
+start-refused {n = n} {at = at} (map-refuses {f = f} e h) =
+    refuses (ap scoresOf e ∙ ap (λ (l : List (ℕ × Play)). then (playScores (f .map) l) (λ ss. refusal n at)) h ∙ ap (λ (x : Outcome (List PlayScore)). then x (λ ss. refusal n at)) (scores-none (f .map)))
+
+pub check-refused : {s : List ℕ} {p i n at : ℕ} → checked.Refused n at ≡ checkedOf i (scoresOf (fileOf s)) → PlaysOf s p i (answer.Refused n at)
+check-refused {s = s} {p = p} {i = i} {n = n} {at = at} e = refuses (go (scoresOf (fileOf s)) e)
+  where
+    go : (x : Outcome Scores) → checked.Refused n at ≡ checkedOf i x → x ≡ refusal n at
+    go (refusal k o) e = let a : k ≡ n = cc in let b : o ≡ at = cc in rw (a, b)
+    go (values x) e = never (cc)
+
+pub check-good : {s : List ℕ} {p i : ℕ} {m : Map} (k : MapIs s p m) (a : ScoreAttributes) (w : Wanted) → a ≡ scoreAttributesAt (k .file .map) p
+    → checked.Good w ≡ checkedOf i (scoresOf (fileOf s)) → PlaysOf s p i (answer.Good m a w)
+check-good {s = s} {p = p} {i = i} {m = m} k a w q e = go (scoresOf (fileOf s)) refl e
+  where
+    go : (x : Outcome Scores) → scoresOf (fileOf s) ≡ x → checked.Good w ≡ checkedOf i x → PlaysOf s p i (answer.Good m a w)
+    go (refusal n at) h e = never (cc)
+    go (values x) h e =
+        let v = no-number s x h in
+        let same : x .map ≡ k .file .map = v .map ∙ map-same k (v .file) (v .read) in
+        let is : w ≡ wantedOf i (x .plays) = cc in
+        good k x h same (q ∙ ap (λ (n : MapData). scoreAttributesAt n p) (sym same)) is

@@ -1,16 +1,15 @@
 -- The scores of plays one after the other: those of a list, then those of what follows it.
-use mathlib.Core.Path.{_≡_, refl, sym, ap, _∙_}
+use mathlib.Core.Path.{_≡_, refl, ap, _∙_}
 use mathlib.Core.List.{List, [], _∷_, _++_}
 use Prim.Native.Nat.{ℕ, zero, suc, _-_}
 use native.Mathlib.Omega.{arith}
 use lib.Dec.{eqb·suc-zero}
-use Rattle.rules.specs.Refusals.{Checked, good, refused, pick}
+use Rattle.rules.specs.Refusals.{good, refused, pick}
 use Rattle.map_file.specs.File.{Map}
 use Rattle.play_state.specs.declared.Play.{Play}
 use Rattle.scoring.specs.Scores.{Outcome, refusal, values, at-offset, then, playScoreOn, playScores}
 use Rattle.scoring.specs.View.{wantedOf, wantedAfter}
 use Rattle.play_score.specs.declared.PlayScore.{PlayScore}
-use Rattle.scoring.specs.declared.plays.Wanted.{Wanted}
 use Rattle.scoring.specs.declared.plays.Wanted.the-variants as wanted
 
 abbrev Several : Type 0

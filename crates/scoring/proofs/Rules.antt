@@ -1,19 +1,18 @@
 -- Every refusal has the number of a rule: each check of a record names one, and the reading of a file always comes to its end.
-use mathlib.Core.Path.{_≡_, refl, sym, ap, _∙_, subst}
-use mathlib.Core.Bool.{Bool, true, false, not}
+use mathlib.Core.Path.{_≡_, refl, subst}
+use mathlib.Core.Bool.{Bool, true, false}
 use mathlib.Core.List.{List, [], _∷_}
-use Prim.Native.Nat.{ℕ, zero, suc, _+_, _-_, _≤_, _<_}
+use Prim.Native.Nat.{ℕ, zero, suc, _-_, _≤_, _<_}
 use native.Mathlib.Omega.{arith}
 use borrow.Author.Tests.{ltb-true}
 use lib.Dec.{eqb, ltb}
 use lib.ListN.{length, take, drop}
 use Rattle.numbers.specs.Words.{wordAt}
 use Rattle.rules.specs.Refusals.{Checked, good, refused, _>>=_, _>>_, refuse_when_, pick}
-use Rattle.records.specs.Fields.{cut, timeOf, durationOf, rateOf, settingOf, timed, set, played}
-use Rattle.records.specs.Objects.{Item}
-use Rattle.play_state.specs.Play.{originOf, scoreOf, flagsBad, originChecked, scoreChecked}
+use Rattle.records.specs.Fields.{timeOf, durationOf, rateOf, settingOf, timed, set, played}
+use Rattle.play_state.specs.Play.{originOf, scoreOf, originChecked, scoreChecked}
 use Rattle.records.specs.Records.{Content, FoundRecord, CI, SL, SP, headerOf, breakOf, circleOf, itemOf, nestedOf, sliderOf, spinnerOf, playOf, objectOf}
-use Rattle.map_file.specs.Order.{MH, BR, PL, rankOf, inOrder, isFull, overBonus, contentBonus, bodyOf, recordOf}
+use Rattle.map_file.specs.Order.{MH, BR, PL, bodyOf, recordOf}
 use Rattle.map_file.specs.File.{File, Result, accepted, refusedAt, countsOf, with-record, follow, ended, fileFrom, nothingRead, fileOf}
 use Rattle.records.specs.declared.fields.Double.{Double}
 use Rattle.records.specs.declared.fields.Double.the-variants as double
@@ -29,9 +28,8 @@ use Rattle.map_file.specs.File.{Map}
 use Rattle.map_file.proofs.Reading.{foundAt, found-sized, with-at}
 use Rattle.simulator.specs.Attributes.{scoreAttributesAt}
 use Rattle.simulator.specs.declared.attributes.ScoreAttributes.{ScoreAttributes}
-use Rattle.play_score.specs.PlayRules.{exceeds, overCombo, playScore, givenScore}
-use Rattle.scoring.specs.Scores.{Outcome, refusal, values, at-offset, then, playScoreOn, playScores, Scores, scoresOf}
-use Rattle.play_score.specs.declared.PlayScore.{PlayScore}
+use Rattle.play_score.specs.PlayRules.{playScore, givenScore}
+use Rattle.scoring.specs.Scores.{Outcome, refusal, values, at-offset, then, playScoreOn, playScores, scoresOf}
 
 -- the rules of a map file and its plays are numbered 2 to 10
 abbrev pub IsRule : ℕ → Type 0

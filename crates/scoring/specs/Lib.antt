@@ -1,3 +1,2 @@
 pub mod Scores
 pub mod View
-pub mod Reached

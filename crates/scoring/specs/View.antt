@@ -1,33 +1,23 @@
--- What the code keeps while it reads the plays of a file.
+-- What the code keeps while it reads the plays of a file, and what it answers.
 use Prim.Native.Nat.{ℕ, zero, suc, _-_, min}
+use mathlib.Core.Path.{_≡_}
+use mathlib.Core.Bool.{Bool}
 use mathlib.Core.List.{List, [], _∷_}
 use lib.Dec.{eqb}
-use lib.ListN.{length, take, drop}
 use Rattle.rules.specs.Refusals.{pick}
-use Rattle.map_file.specs.Order.{recordOf}
-use Rattle.map_file.specs.File.{Result, accepted, refusedAt, fileOf}
-use Rattle.map_file.specs.View.{stepOf, freshOf}
 use Rattle.play_state.specs.declared.Play.{Play}
-use Rattle.records.specs.declared.record.Record.{Record}
-use Rattle.records.specs.declared.record.Record.the-variants as record·case
-use Rattle.map_file.specs.declared.file.Reader.{Reader}
-use Rattle.map_file.specs.declared.file.Step.{Step}
-use Rattle.map_file.specs.declared.file.Step.the-variants as step
+use Rattle.map_file.specs.File.{fileOf}
+use Rattle.map_reader.specs.Map.{MapIs}
+use Rattle.map_reader.specs.declared.map.Map.{Map}
+use Rattle.play_reader.proofs.Playing.{ReadTo}
 use Rattle.simulator.specs.Attributes.{scoreAttributesAt}
-use Rattle.file_sums.specs.Sums.{sumsOf, withRecord, attributesIn}
-use Rattle.file_sums.specs.declared.simulate.Sums.{Sums}
-use Rattle.play_score.specs.PlayRules.{playScore, scoredOf}
-use Rattle.scoring.specs.Scores.{Outcome, refusal, values, Scores, playScoreOn}
+use Rattle.simulator.specs.declared.attributes.ScoreAttributes.{ScoreAttributes}
+use Rattle.scoring.specs.Scores.{Outcome, refusal, values, Scores, playScores, scoresOf}
 use Rattle.play_score.specs.declared.PlayScore.{PlayScore}
-use Rattle.play_score.specs.declared.Scored.{Scored}
-use Rattle.play_score.specs.declared.Scored.the-variants as scored
 use Rattle.scoring.specs.declared.plays.Wanted.{Wanted}
 use Rattle.scoring.specs.declared.plays.Wanted.the-variants as wanted
-use Rattle.scoring.specs.declared.plays.RecordScore.{RecordScore}
-use Rattle.scoring.specs.declared.plays.RecordScore.the-variants as record·score
-use Rattle.scoring.specs.declared.plays.Walk.{Walk}
-use Rattle.scoring.specs.declared.plays.Walked.{Walked}
-use Rattle.scoring.specs.declared.plays.Walked.the-variants as walked
+use Rattle.scoring.specs.declared.plays.Checked.{Checked}
+use Rattle.scoring.specs.declared.plays.Checked.the-variants as checked
 use Rattle.scoring.specs.declared.plays.Plays.{Plays}
 use Rattle.scoring.specs.declared.plays.Plays.the-variants as plays
 
@@ -42,42 +32,38 @@ unfoldable pub wantedAfter : Wanted → PlayScore → Wanted
 wantedAfter (wanted.Is found) s = wanted.Is found
 wantedAfter (wanted.Ahead n) s = pick (eqb n 0) (wanted.Is s) (wanted.Ahead (n - 1))
 
-abbrev pub walkStart : ℕ → ℕ → Walk
-walkStart p i = record { reader = freshOf; sums = sumsOf p []; end = 0; wanted = wanted.Ahead i }
+-- as many of n objects as a count of p passes
+abbrev pub passesAsMany : Play → ℕ → ℕ → Bool
+passesAsMany q p n = eqb (min (q .«passed_objects») n) (min p n)
 
--- a play on what a file holds before it
-abbrev pub scoredIn : Result → Play → Scored
-scoredIn (accepted f) p = scoredOf (playScoreOn (f .map) p)
-scoredIn (refusedAt n at f) p = scored.Refused n
+-- some plays behind the map were read and are good; w is the one at the index i, if it was among them
+pub record Playing (s : List ℕ) (m : Map) (at : ℕ) (w : Wanted) (i : ℕ) : Type 0 where
+  pub p : ℕ
+  pub to : ReadTo s p m at
+  pub scores : List PlayScore
+  pub same : playScores (to .file .map) (to .file .plays) ≡ values scores
+  pub wanted : w ≡ wantedOf i scores
 
--- the same, from the sums of the first p objects if the play passed as many
-abbrev pub scoredAt : List ℕ → Walk → ℕ → Play → Scored
-scoredAt s w p q = pick (eqb (min (q .«passed_objects») (w .reader .counts .objects)) (min p (w .reader .counts .objects)))
-    (scoredOf (playScore q (attributesIn s (w .reader) (w .sums))))
-    (scoredIn (fileOf (take (w .end) s)) q)
+pub record AnyPlaying (s : List ℕ) (m : Map) (at : ℕ) (w : Wanted) : Type 0 where
+  pub i : ℕ
+  pub is : Playing s m at w i
 
-abbrev pub recordScoreAt : List ℕ → Walk → ℕ → Record → RecordScore
-recordScoreAt s w p (record·case.Header t) = record·score.NoPlay
-recordScoreAt s w p (record·case.Break b) = record·score.NoPlay
-recordScoreAt s w p (record·case.Object o) = record·score.NoPlay
-recordScoreAt s w p (record·case.Play q) = record·score.Play (scoredAt s w p q)
+-- m is the map of the file, and a the attributes of its first p objects
+pub record Attributed (s : List ℕ) (p : ℕ) (m : Map) (a : ScoreAttributes) : Type 0 where
+  pub map : MapIs s p m
+  pub attributes : a ≡ scoreAttributesAt (map .file .map) p
 
--- behind a record: the map ends there unless it is a play, whose refusal has the play's offset
-abbrev pub walkedBehind : Walk → Reader → Sums → RecordScore → Walked
-walkedBehind w next sums record·score.NoPlay = walked.Next (record { reader = next; sums = sums; end = next .at; wanted = w .wanted })
-walkedBehind w next sums (record·score.Play (scored.Refused n)) = walked.Refused n (w .reader .at)
-walkedBehind w next sums (record·score.Play (scored.Score s)) =
-    walked.Next (record { reader = next; sums = sums; end = w .end; wanted = wantedAfter (w .wanted) s })
+-- at the end of a file: the play at the index i
+abbrev pub checkedOf : ℕ → Outcome Scores → Checked
+checkedOf i (refusal n at) = checked.Refused n at
+checkedOf i (values x) = checked.Good (wantedOf i (x .plays))
 
-abbrev pub walkedStep : List ℕ → ℕ → Walk → Step → Walked
-walkedStep s p w (step.Refused n at) = walked.Refused n at
-walkedStep s p w (step.Next item next) = walkedBehind w next (withRecord p (w .reader .counts .objects) (w .sums) item) (recordScoreAt s w p item)
+-- the rest of a file, whatever the index of the wanted play
+abbrev pub CheckedFrom : List ℕ → Map → ℕ → Wanted → Checked → Type 0
+CheckedFrom s m at w r = (i : ℕ) → Playing s m at w i → r ≡ checkedOf i (scoresOf (fileOf s))
 
--- one record of a file
-abbrev pub walkedOf : List ℕ → ℕ → Walk → Walked
-walkedOf s p w = walkedStep s p w (stepOf (w .reader) (recordOf (drop (w .reader .at) s) (w .reader .counts)))
-
--- at the end of a file
-abbrev pub playsOf : ℕ → ℕ → Outcome Scores → Plays
-playsOf p i (refusal n at) = plays.Refused n at
-playsOf p i (values s) = plays.Good (scoreAttributesAt (s .map) p) (wantedOf i (s .plays))
+-- the map too, with the attributes of its first p objects
+pub data PlaysOf (s : List ℕ) (p i : ℕ) : Plays → Type 0 where
+  good : {m : Map} {a : ScoreAttributes} {w : Wanted} (k : MapIs s p m) (x : Scores) → scoresOf (fileOf s) ≡ values x → x .map ≡ k .file .map
+      → a ≡ scoreAttributesAt (x .map) p → w ≡ wantedOf i (x .plays) → PlaysOf s p i (plays.Good m a w)
+  refuses : {n at : ℕ} → scoresOf (fileOf s) ≡ refusal n at → PlaysOf s p i (plays.Refused n at)

@@ -28,7 +28,7 @@ pub fn score_map(s: &[u8]) -> MapScore
 {
     match check_plays(s, u64::MAX, 0) {
         Plays::Refused { number, offset } => MapScore::Refused { number, offset },
-        Plays::Good(a, _) => MapScore::Map(a),
+        Plays::Good(_, a, _) => MapScore::Map(a),
     }
 }
 
@@ -38,7 +38,7 @@ pub fn score_play(s: &[u8], play: Play) -> GivenPlay
 {
     match check_plays(s, play.passed_objects as u64, 0) {
         Plays::Refused { number, offset } => GivenPlay::Refused { number, offset },
-        Plays::Good(a, _) => score_given(play, a),
+        Plays::Good(_, a, _) => score_given(play, a),
     }
 }
 
@@ -48,7 +48,7 @@ pub fn score_play_at(s: &[u8], index: u64) -> ListedPlay
 {
     match check_plays(s, u64::MAX, index) {
         Plays::Refused { number, offset } => ListedPlay::Refused { number, offset },
-        Plays::Good(_, wanted) => match wanted {
+        Plays::Good(_, _, wanted) => match wanted {
             Wanted::Ahead(_) => ListedPlay::NoPlay,
             Wanted::Is(score) => ListedPlay::Score(score),
         },

@@ -89,7 +89,7 @@ module _ (p n : ℕ) (os : List Object) (few : length os ≤ n) (most : n ≤ ma
   pub passed-counted : Counted n (countedAll noObject (take p os))
   passed-counted = counted-more (0 + length (take p os)) n _ (omega (arith, taken)) (all-counted 0 noObject (take p os) (each-take p w) none-counted)
 
-one-more : (c : NestedScorePerObject) (k : Kind) → counted c k .«object_count» ≡ c .«object_count» + 1
+pub one-more : (c : NestedScorePerObject) (k : Kind) → counted c k .«object_count» ≡ c .«object_count» + 1
 unfolding counted
 one-more c circle = refl
 one-more c (slider is) = refl

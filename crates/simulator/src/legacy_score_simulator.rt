@@ -1,9 +1,9 @@
 // The running state of ScoreV1, object by object. Its combo points are those of multiplier 1: the multiplier is a factor of each of them.
 use numbers::rounding::float;
-use records::hit_object::HitObject;
 use records::hit_object::HitObjectKind;
 use records::hit_object::Slider;
 use records::hit_object::Spinner;
+use ruleset::hit_result::HitResult;
 use spinner::LegacyBonusScore;
 use spinner::StandardisedBonusScore;
 ghost use mathlib.Core.Path.{_≡_};
@@ -12,7 +12,7 @@ ghost use Rattle.rules.specs.Limits.{maxCombo, maxObjects, maxNested};
 ghost use Rattle.simulator.specs.Hits.{hitsOf};
 ghost use Rattle.simulator.specs.Walk.{walk, fresh};
 ghost use Rattle.simulator.specs.Attributes.{bonusRatioOf, legacyAttributesOf};
-ghost use Rattle.simulator.specs.Limits.{Within, Bounded, nestedCount};
+ghost use Rattle.simulator.specs.Limits.{Within, Bounded};
 ghost use Rattle.simulator.specs.View.{kindOf, times};
 
 pub struct OsuLegacyScoreSimulator {
@@ -31,12 +31,18 @@ pub struct LegacyScoreAttributes {
     pub max_combo: u64,
 }
 
+// For each combo before it ScoreV1 gives the points of a hit divided by this.
+const COMBO_DIVISOR: u64 = 25;
+
 // The combo points of a 300 at multiplier 1: 300 / 25 for each combo before it but the first, and none at combo 0.
 pub fn combo_points(combo: u64) -> u64
     requires { ⌜ combo ≤ maxCombo ⌝ }
     ensures { λ r. ⌜ r ≡ 12 * (combo - 1) ⌝ }
 {
-    if combo == 0 { 0 } else { 12 * (combo - 1) }
+    if combo == 0 {
+        return 0;
+    }
+    HitResult::Great.base_score() / COMBO_DIVISOR * (combo - 1)
 }
 
 impl OsuLegacyScoreSimulator {
@@ -60,7 +66,7 @@ impl OsuLegacyScoreSimulator {
         let standardised_bonus_score = self.standardised_bonus_score;
         OsuLegacyScoreSimulator {
             combo: self.combo + 1,
-            accuracy_score: self.accuracy_score + 300,
+            accuracy_score: self.accuracy_score + HitResult::Great.base_score(),
             combo_score: self.combo_score + combo_points(self.combo),
             legacy_bonus_score,
             standardised_bonus_score,
@@ -78,7 +84,10 @@ impl OsuLegacyScoreSimulator {
         let standardised_bonus_score = self.standardised_bonus_score;
         OsuLegacyScoreSimulator {
             combo,
-            accuracy_score: self.accuracy_score + big_ticks * 30 + slider.ticks * 10 + 300,
+            accuracy_score: self.accuracy_score
+                + big_ticks * HitResult::LargeTickHit.base_score()
+                + slider.ticks * HitResult::SmallTickHit.base_score()
+                + HitResult::Great.base_score(),
             combo_score: self.combo_score + combo_points(combo),
             legacy_bonus_score,
             standardised_bonus_score,
@@ -97,22 +106,10 @@ impl OsuLegacyScoreSimulator {
         );
         OsuLegacyScoreSimulator {
             combo: self.combo + 1,
-            accuracy_score: self.accuracy_score + 300,
+            accuracy_score: self.accuracy_score + HitResult::Great.base_score(),
             combo_score: self.combo_score + combo_points(self.combo),
             legacy_bonus_score,
             standardised_bonus_score,
-        }
-    }
-
-    pub fn step(self, object: HitObject) -> Self
-        requires { ⌜ Within (maxObjects - 1) self × (nestedCount (object .kind) ≤ maxNested) ⌝ }
-        ensures { λ r. ⌜ r ≡ walk 1 self (hitsOf (kindOf (object .kind))) ⌝ }
-    {
-        let kind = object.kind;
-        match kind {
-            HitObjectKind::Circle => self.circle(),
-            HitObjectKind::Slider(slider) => self.slider(slider),
-            HitObjectKind::Spinner(spinner) => self.spinner(spinner),
         }
     }
 

@@ -27,7 +27,6 @@ pub struct SpinCounts {
     pub small: u64,
 }
 
-// a - b, and 0 where b is above a.
 // How many half spins up to `total` give the large and the small bonus, with `before` half spins before the bonus.
 fn count_spins(total: u64, before: u64) -> SpinCounts
     ensures { λ c. ⌜ (c .large ≡ largeCount before total) × (c .small ≡ smallCount before total) × (c .large ≤ total) × (c .small ≤ total) ⌝ }

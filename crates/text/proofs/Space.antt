@@ -15,7 +15,7 @@ put-no-space : (at : ℕ) (t : List ℕ) → putAt [] at t ≡ []
 unfolding putAt
 put-no-space at t = simp (take-nil, drop-nil, zero-sub)
 
-put-nothing : (l : List ℕ) (at : ℕ) → putAt l at [] ≡ l
+pub put-nothing : (l : List ℕ) (at : ℕ) → putAt l at [] ≡ l
 unfolding putAt
 put-nothing l at = simp (take-nil, add-zero, append-nil) (take-append-drop at l)
 

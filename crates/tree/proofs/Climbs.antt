@@ -1,12 +1,12 @@
 -- The steps of `climbed`, as the code takes them.
-use Prim.Native.Nat.{ℕ, zero, suc, _-_, _/_, _%_}
+use Prim.Native.Nat.{ℕ, zero, suc, _-_, _/_, _%_, _≤_}
 use mathlib.Core.Path.{_≡_, refl, sym, ap, _∙_}
 use mathlib.Core.Bool.{Bool, true, false, not, cond}
 use mathlib.Core.List.{List}
 use native.Mathlib.Omega.{arith}
 use native.Mathlib.Decide.{ℕ-discrete}
-use borrow.Author.Tests.{eq-eqb, ne-eqb, ltb-false, not-false}
-use lib.Dec.{ltb, eqb}
+use borrow.Author.Tests.{eq-eqb, ne-eqb, le-ltb, ltb-false}
+use lib.Dec.{ltb, eqb, lit<}
 use Rattle.rules.specs.Limits.{maxBonus}
 use Rattle.rules.specs.Refusals.{Checked, good, refused, _>>=_, _>>_, refuse_when_}
 use Rattle.entries.specs.Entry.{joined, inLimits}
@@ -14,11 +14,12 @@ use Rattle.entries.specs.Words.{entryAt, putEntry}
 use Rattle.entries.specs.declared.entry.Entry.{Entry}
 use Rattle.tree.specs.Limited.{withoutLegacy, limited, combinedOf}
 use Rattle.tree.specs.Put.{besideOf, aboveOf, climbed, putOf, orElse}
-use Rattle.tree.specs.declared.Combined.the-variants as combined
-use Rattle.tree.specs.declared.Put.{Put}
-use Rattle.tree.specs.declared.Put.the-variants as put
+use Rattle.tree.specs.declared.combine.Combined.the-variants as combined
+use Rattle.tree.specs.declared.put.Put.{Put}
+use Rattle.tree.specs.declared.put.Put.the-variants as put
 use Rattle.rules.proofs.Laws.{never}
-use Rattle.tree.proofs.Light.{legacy-in}
+use Rattle.entries.proofs.Limits.{word-le}
+use Rattle.tree.proofs.Light.{light-of, legacy-in}
 
 -- the pair of e and the entry beside it
 pub beside-pair : (e : ℕ) → besideOf e / 2 ≡ e / 2
@@ -27,6 +28,18 @@ beside-pair e = go (ℕ-discrete (e % 2) 0)
     go : Dec (e % 2 ≡ 0) → besideOf e / 2 ≡ e / 2
     go (yes h) = simp (eq-eqb _ _ h) (omega arith)
     go (no h) = simp (ne-eqb _ _ h) (omega arith)
+
+-- ---- an entry within all limits passes
+pub limited-low : (e : Entry) → inLimits (withoutLegacy e) ≡ true → e .«legacy_bonus_score» ≤ maxBonus → limited e ≡ good e
+unfolding limited _>>_ refuse_when_
+limited-low e h l = simp (h, le-ltb _ _ l)
+
+pub limited-in-limits : (e : Entry) → inLimits e ≡ true → limited e ≡ good e
+limited-in-limits e h = limited-low e (light-of e h) (word-le e h 5 (lit< tt))
+
+pub above-is : (e : ℕ) (v w u : Entry) → inLimits w ≡ true → cond (eqb (e % 2) 0) (joined v w) (joined w v) ≡ u → aboveOf e v w ≡ limited u
+unfolding aboveOf _>>_ refuse_when_
+above-is e v w u h q = simp h (ap limited q)
 
 -- ---- an entry that passes is within all limits
 pub limited-in : (e u : Entry) → limited e ≡ good u → inLimits u ≡ true

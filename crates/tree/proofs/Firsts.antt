@@ -16,10 +16,10 @@ use Rattle.entries.specs.Words.{entryAt}
 use Rattle.entries.specs.declared.entry.Entry.{Entry}
 use Rattle.tree.specs.Limited.{limited, afterOf, combinedOf}
 use Rattle.tree.specs.First.{walked, taken, turnedOf}
-use Rattle.tree.specs.declared.Combined.the-variants as combined
-use Rattle.tree.specs.declared.Prefix.{Prefix}
-use Rattle.tree.specs.declared.Turned.{Turned}
-use Rattle.tree.specs.declared.Turned.the-variants as turned
+use Rattle.tree.specs.declared.combine.Combined.the-variants as combined
+use Rattle.tree.specs.declared.first.Prefix.{Prefix}
+use Rattle.tree.specs.declared.first.Turned.{Turned}
+use Rattle.tree.specs.declared.first.Turned.the-variants as turned
 use Rattle.tree.proofs.Climbs.{limited-in}
 use Rattle.rules.proofs.Laws.{never}
 

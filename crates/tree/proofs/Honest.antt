@@ -8,7 +8,7 @@ use mathlib.Core.List.{List}
 use native.Mathlib.Omega.{arith}
 use native.Mathlib.Nat.{suc-ne-zero}
 use native.Mathlib.Decide.{ℕ-discrete}
-use borrow.Author.Tests.{eq-eqb, ne-eqb, lt-ltb, le-ltb, ltb-true, ltb-false}
+use borrow.Author.Tests.{eq-eqb, ne-eqb, lt-ltb, ltb-true, ltb-false}
 use lib.Dec.{ltb}
 use lib.ListN.{length, set}
 use Rattle.rules.specs.Limits.{maxBonus}
@@ -21,7 +21,7 @@ use Rattle.entries.proofs.WordLaws.{put-same, put-other}
 use Rattle.tree.specs.Limited.{withoutLegacy, limited}
 use Rattle.tree.specs.Put.{besideOf, aboveOf, climbed}
 use Rattle.tree.specs.Board.{entryIn}
-use Rattle.tree.proofs.Climbs.{at-top, stops, stops-above, goes-on}
+use Rattle.tree.proofs.Climbs.{above-is, limited-low, at-top, stops, stops-above, goes-on}
 use Rattle.tree.proofs.Covers.{entry-node, entry-off, Off, Top, top-two, even, odd}
 use Rattle.tree.proofs.Kept.{Kept, stored, stored-more}
 use Rattle.tree.proofs.Within.{all-in, all-light, legacy-top}
@@ -54,17 +54,9 @@ off-above zero x e h = omega arith
 off-above (suc n) x e h = (omega arith, off-above n x (e / 2) (omega arith))
 
 -- ---- an entry whose words but the legacy bonus are within the limits
-limited-low : (e : Entry) → inLimits (withoutLegacy e) ≡ true → e .«legacy_bonus_score» ≤ maxBonus → limited e ≡ good e
-unfolding limited _>>_ refuse_when_
-limited-low e h l = simp (h, le-ltb _ _ l)
-
 limited-high : (e : Entry) → inLimits (withoutLegacy e) ≡ true → maxBonus < e .«legacy_bonus_score» → limited e ≡ refused 7
 unfolding limited _>>_ refuse_when_
 limited-high e h l = simp (h, lt-ltb _ _ l)
-
-above-is : (e : ℕ) (v w u : Entry) → inLimits w ≡ true → cond (lib.Dec.eqb (e % 2) 0) (joined v w) (joined w v) ≡ u → aboveOf e v w ≡ limited u
-unfolding aboveOf _>>_ refuse_when_
-above-is e v w u h q = simp h (ap limited q)
 
 module _ (l : ℕ) (os : List Object) (p : ℕ) (o : Object) (in-p : p < 2 ^ l) (b : List ℕ) where
   -- entry x of the map, and of the map with o at p

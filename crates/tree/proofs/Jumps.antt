@@ -17,7 +17,7 @@ use Rattle.entries.specs.declared.entry.Entry.{Entry}
 use Rattle.entries.proofs.Limits.{word-le, first-most, sum-of-none, sum-of-more, sum-of-joined}
 use Rattle.tree.specs.Limited.{withoutLegacy, limited, afterOf, sumOf, combinedOf}
 use Rattle.tree.specs.First.{walked}
-use Rattle.tree.specs.declared.Combined.the-variants as combined
+use Rattle.tree.specs.declared.combine.Combined.the-variants as combined
 use Rattle.rules.proofs.Laws.{never}
 use Rattle.tree.proofs.Firsts.{skips, takes}
 use Rattle.tree.proofs.Light.{light-of}

@@ -5,6 +5,7 @@ pub mod Firsts
 pub mod Covers
 pub mod Within
 pub mod Jumps
+pub mod Rises
 pub mod Kept
 pub mod Honest
 pub mod FirstRight

@@ -7,9 +7,9 @@ use Rattle.rules.specs.Refusals.{Checked, good, refused, _>>=_}
 use Rattle.entries.specs.Words.{entryAt}
 use Rattle.entries.specs.declared.entry.Entry.{Entry}
 use Rattle.tree.specs.Limited.{afterOf}
-use Rattle.tree.specs.declared.Prefix.{Prefix}
-use Rattle.tree.specs.declared.Turned.{Turned}
-use Rattle.tree.specs.declared.Turned.the-variants as turned
+use Rattle.tree.specs.declared.first.Prefix.{Prefix}
+use Rattle.tree.specs.declared.first.Turned.{Turned}
+use Rattle.tree.specs.declared.first.Turned.the-variants as turned
 
 -- a, and then the entries that cover the first p places from entry x of level n - 1 on, the largest first
 unfoldable pub walked : ℕ → List ℕ → ℕ → ℕ → Entry → Checked Entry

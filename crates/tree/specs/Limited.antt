@@ -7,8 +7,8 @@ use Rattle.rules.specs.Limits.{maxBonus}
 use Rattle.rules.specs.Refusals.{Checked, good, refused, _>>_, refuse_when_, BONUS, BOARD}
 use Rattle.entries.specs.Entry.{joined, inLimits}
 use Rattle.entries.specs.declared.entry.Entry.{Entry}
-use Rattle.tree.specs.declared.Combined.{Combined}
-use Rattle.tree.specs.declared.Combined.the-variants as combined
+use Rattle.tree.specs.declared.combine.Combined.{Combined}
+use Rattle.tree.specs.declared.combine.Combined.the-variants as combined
 
 abbrev pub withoutLegacy : Entry → Entry
 withoutLegacy e = record {

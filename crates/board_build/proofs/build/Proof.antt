@@ -1,4 +1,6 @@
 -- `build` is right since nothing is written before the last check, and then the objects' own entries, their starts and what lies above.
+use mathlib.Core.Path.{subst}
+use Rattle.scoring.specs.View.{PlaysOf}
 use borrow.Author.Needs.{needs}
 use Rattle.rules.proofs.Laws.{so}
 use Rattle.board_build.proofs.BuiltRight.{file-refused, no-room, build-lays, build-fills, build-done}
@@ -11,8 +13,8 @@ check-plays-requires c κs = search needs
 enum-known-number : tie.Need-enum-known-number
 enum-known-number c = search needs
 
-enum-known-a : tie.Need-enum-known-a
-enum-known-a c = search needs
+enum-known-map : tie.Need-enum-known-map
+enum-known-map c = search needs
 
 room-for-requires : tie.Need-room-for-requires
 room-for-requires c κs = search needs
@@ -30,7 +32,7 @@ lay-requires c κs =
     let good = asked .before .before .before .before in
     let checked = good .before .before in
     let args = checked .before .before .before .before .args in
-    build-lays (args .file .now) (args .board .now) (args .starts .now) 0 _ _ (so (good .a .given .1) (checked .check-plays .ensures))
+    build-lays (args .file .now) (args .board .now) (args .starts .now) (subst (PlaysOf (args .file .now) 18446744073709551615 0) (good .map .given .1) (checked .check-plays .ensures))
     _ (so (sized .size .given .1) (asked .room-for .ensures))
 
 fill-requires : tie.Need-fill-requires
@@ -41,7 +43,7 @@ fill-requires c κs =
     let good = asked .before .before .before .before in
     let checked = good .before .before in
     let args = checked .before .before .before .before .args in
-    build-fills (args .file .now) (args .board .now) (args .starts .now) 0 _ _ (so (good .a .given .1) (checked .check-plays .ensures))
+    build-fills (args .file .now) (args .board .now) (args .starts .now) (subst (PlaysOf (args .file .now) 18446744073709551615 0) (good .map .given .1) (checked .check-plays .ensures))
     _ (so (sized .size .given .1) (asked .room-for .ensures))
     _ _ (laid .lay .ensures)
 
@@ -49,7 +51,7 @@ returns : tie.Need-returns
 returns c =
     let checked = c .before .before .before in
     let args = checked .before .before .before .before .args in
-    file-refused (args .file .now) (args .board .now) (args .starts .now) 0 _ _ (so (c .before .number .given .1) (checked .check-plays .ensures))
+    file-refused (args .file .now) (args .board .now) (args .starts .now) (subst (PlaysOf (args .file .now) 18446744073709551615 0) (c .before .number .given .1) (checked .check-plays .ensures))
 
 same-length : tie.Need-same-length
 same-length c = search needs
@@ -63,7 +65,7 @@ returns-2 c =
     let good = asked .before .before .before .before in
     let checked = good .before .before in
     let args = checked .before .before .before .before .args in
-    no-room (args .file .now) (args .board .now) (args .starts .now) 0 _ _ (so (good .a .given .1) (checked .check-plays .ensures))
+    no-room (args .file .now) (args .board .now) (args .starts .now) (subst (PlaysOf (args .file .now) 18446744073709551615 0) (good .map .given .1) (checked .check-plays .ensures))
     _ (so (c .before .number2 .given .1) (asked .room-for .ensures))
 
 same-length-3 : tie.Need-same-length-3
@@ -81,7 +83,7 @@ returns-3 c =
     let good = asked .before .before .before .before in
     let checked = good .before .before in
     let args = checked .before .before .before .before .args in
-    build-done (args .file .now) (args .board .now) (args .starts .now) 0 _ _ (so (good .a .given .1) (checked .check-plays .ensures))
+    build-done (args .file .now) (args .board .now) (args .starts .now) (subst (PlaysOf (args .file .now) 18446744073709551615 0) (good .map .given .1) (checked .check-plays .ensures))
     _ (so (sized .size .given .1) (asked .room-for .ensures))
     _ _ (laid .lay .ensures)
     _ (all .fill .ensures)
@@ -92,7 +94,7 @@ build-spec =
     (tie.spec
     check-plays-requires
     enum-known-number
-    enum-known-a
+    enum-known-map
     room-for-requires
     enum-known-number-2
     enum-known-size

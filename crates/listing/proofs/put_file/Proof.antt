@@ -1,18 +1,21 @@
--- The map's score tells whether the file is refused; each case puts the text of the definition.
+-- The check of the plays tells whether the file is refused; each case puts the text of the definition.
 use mathlib.Core.Path.{ap, _∙_, subst}
 use mathlib.Core.List.{List}
-use lib.ListN.{length}
 use Prim.Native.Nat.{ℕ}
+use lib.ListN.{length}
 use denote.Ref.{now}
 use borrow.Author.Needs.{needs}
-use Rattle.text.proofs.Space.{Puts, length-put}
-use Rattle.rules.proofs.Laws.{so}
-use Rattle.listing.proofs.Texts.{text-refused, text-map, text-good}
+use Rattle.text.proofs.Space.{Written, Puts, first, next, length-put}
+use Rattle.map_file.specs.File.{fileOf}
+use Rattle.scoring.specs.Scores.{scoresOf}
+use Rattle.scoring.specs.View.{PlaysOf}
+use Rattle.listing.specs.Listing.{playsText}
+use Rattle.listing.proofs.Texts.{text-refused, text-good, file-good, put-inside}
 use Rattle.listing.proofs.put_file.Statement.{statement}
 use Rattle.listing.proofs.put_file.Tie as tie
 
-score-map-requires : tie.Need-score-map-requires
-score-map-requires c κs = search needs
+check-plays-requires : tie.Need-check-plays-requires
+check-plays-requires c κs = search needs
 
 enum-known-number : tie.Need-enum-known-number
 enum-known-number c = search needs
@@ -23,34 +26,44 @@ cast-put-refused-line c = search needs
 put-refused-line-requires : tie.Need-put-refused-line-requires
 put-refused-line-requires c κs = search needs
 
-enum-known-a : tie.Need-enum-known-a
-enum-known-a c = search needs
+enum-known-map : tie.Need-enum-known-map
+enum-known-map c = search needs
 
-put-lines-requires : tie.Need-put-lines-requires
-put-lines-requires c κs =
-    let at1 = c .before .before in
-    let at2 = at1 .before .before in
-    let at3 = at2 .before .before .before in
-    text-good (now (at3 .args .s)) _ (so (at1 .a .given .1) (at2 .score-map .ensures))
+put-map-line-requires : tie.Need-put-map-line-requires
+put-map-line-requires c κs = search needs
+
+put-plays-requires : tie.Need-put-plays-requires
+put-plays-requires c κs =
+    let line = c .before .before .before in
+    let checked = line .before .before .before .before .before in
+    let start = checked .before .before .before in
+    let answered = subst (PlaysOf (now (start .args .s)) 18446744073709551615 0) (line .before .before .before .map .given .1) (checked .check-plays .ensures) in
+    (file-good (now (start .args .s)) _ _ _ answered, put-inside _ _ _ (line .put-map-line .ensures))
 
 returns : tie.Need-returns
 returns c =
-    let at1 = c .before .before in
-    let at2 = at1 .before .before .before in
-    let at3 = at2 .before .before in
-    let at4 = at3 .before .before .before in
-    subst (λ (t : List ℕ). Puts (now (at4 .args .space)) 0 t (at1 .put-refused-line .last .0) (at1 .put-refused-line .result)) (text-refused (now (at4 .args .s)) _ _ (so (at2 .number .given .1) (at3 .score-map .ensures))) (at1 .put-refused-line .ensures)
+    let line = c .before .before in
+    let checked = line .before .before .before .before .before in
+    let start = checked .before .before .before in
+    let answered = subst (PlaysOf (now (start .args .s)) 18446744073709551615 0) (line .before .before .before .number .given .1) (checked .check-plays .ensures) in
+    subst (λ (t : List ℕ). Puts (now (start .args .space)) 0 t (line .put-refused-line .last .0) (line .put-refused-line .result)) (text-refused (now (start .args .s)) _ _ answered) (line .put-refused-line .ensures)
 
 same-length : tie.Need-same-length
 same-length c = ap length (returns c .1) ∙ length-put _ _ _
 
 returns-2 : tie.Need-returns-2
 returns-2 c =
-    let at1 = c .before .before in
-    let at2 = at1 .before .before .before in
-    let at3 = at2 .before .before in
-    let at4 = at3 .before .before .before in
-    subst (λ (t : List ℕ). Puts (now (at4 .args .space)) 0 t (at1 .put-lines .last .1 .0) (at1 .put-lines .result)) (text-map (now (at4 .args .s)) _ (so (at2 .a .given .1) (at3 .score-map .ensures))) (at1 .put-lines .ensures)
+    let lines = c .before .before in
+    let line = lines .before .before .before .before in
+    let read = line .before .before .before .map .given in
+    let checked = line .before .before .before .before .before in
+    let start = checked .before .before .before in
+    let s = now (start .args .s) in
+    let space = now (start .args .space) in
+    let answered = subst (PlaysOf s 18446744073709551615 0) (read .1) (checked .check-plays .ensures) in
+    let all = next (first space 0 _ (line .put-map-line .ensures)) (playsText (scoresOf (fileOf s))) (lines .put-plays .ensures) in
+    let text = subst (λ (t : List ℕ). Written space 0 t (lines .put-plays .last .1 .1 .0) (lines .put-plays .result)) (text-good s _ _ _ answered) all in
+    (text .place, text .space)
 
 same-length-2 : tie.Need-same-length-2
 same-length-2 c = ap length (returns-2 c .1) ∙ length-put _ _ _
@@ -59,12 +72,13 @@ pub put-file-spec : {M : Type 1} → statement M
 put-file-spec =
     tie.close
     (tie.spec
-    score-map-requires
+    check-plays-requires
     enum-known-number
     cast-put-refused-line
     put-refused-line-requires
-    enum-known-a
-    put-lines-requires
+    enum-known-map
+    put-map-line-requires
+    put-plays-requires
     same-length
     returns
     same-length-2

@@ -1,6 +1,5 @@
 -- Rule 1 is tested first; then the file's text is put.
 use mathlib.Core.Path.{ap, _∙_}
-use denote.Ref.{now}
 use borrow.Author.Needs.{needs}
 use borrow.Author.Tests.{lt-ltb, le-ltb}
 use lib.ListN.{length}

@@ -37,7 +37,7 @@ sign-is b = go (leb (2 ^ 63) b) (leb→le (2 ^ 63) b) (nleb→lt (2 ^ 63) b)
     go true y n = let h : 2 ^ 63 ≤ b = y tt in ap not (ne-eqb (b / 2 ^ 63) 0 (λ (e : b / 2 ^ 63 ≡ 0). omega arith))
     go false y n = let h : b < 2 ^ 63 = n tt in ap not (eq-eqb (b / 2 ^ 63) 0 (omega arith))
 
-ofBits-is : (b : ℕ) → ofBits binary64 b ≡ ofFields binary64 (leb (2 ^ 63) b) (b % 2 ^ 63 / 2 ^ 52) (b % 2 ^ 52)
+pub ofBits-is : (b : ℕ) → ofBits binary64 b ≡ ofFields binary64 (leb (2 ^ 63) b) (b % 2 ^ 63 / 2 ^ 52) (b % 2 ^ 52)
 unfolding ofBits
 ofBits-is b = refl
 
@@ -59,7 +59,7 @@ powers a b c e = sym (pow-add 2 a b) ∙ ap (λ (k : ℕ). 2 ^ k) e
 pub size-is : (n k : ℕ) → 2 ^ k ≤ n → n < 2 ^ (k + 1) → size n ≡ k + 1
 size-is n k lo hi = omega (arith, lt-of-not-le (λ (g : size n ≤ k). not-le-of-lt (lt-of-lt-of-le (size-lt n) (pow-mono g)) lo), size-le n (k + 1) hi)
 
-dropped : (g x : ℕ) → g < 2 ^ 53 → (0 < x → 2 ^ 52 ≤ g) → size (g * 2 ^ x) - 53 ≡ x
+pub dropped : (g x : ℕ) → g < 2 ^ 53 → (0 < x → 2 ^ 52 ≤ g) → size (g * 2 ^ x) - 53 ≡ x
 dropped g zero h k = omega (arith, size-le (g * 1) 53 (omega arith))
 dropped g (suc x) h k =
     let low : 2 ^ (suc x + 52) ≤ g * 2 ^ suc x =
@@ -92,11 +92,11 @@ parts-of v s g x h = parts-at v s g x (h .value) (h .small) (h .normal)
 -- ---- the parts by the fields
 
 -- a field of 0 has no leading digit
-low-value : (s : Bool) (t : ℕ) → t < 2 ^ 52 → IsFinite (ofFields binary64 s 0 t) s t 0
+pub low-value : (s : Bool) (t : ℕ) → t < 2 ^ 52 → IsFinite (ofFields binary64 s 0 t) s t 0
 unfolding ofFields
 low-value s t h = record { value = odd-sign 53 s t 0 1074; small = omega arith; range = omega arith; normal = λ (p : 0 < 0). omega arith }
 
-high-value : (s : Bool) (x t : ℕ) → t < 2 ^ 52 → suc x < 2047 → IsFinite (ofFields binary64 s (suc x) t) s (2 ^ 52 + t) x
+pub high-value : (s : Bool) (x t : ℕ) → t < 2 ^ 52 → suc x < 2047 → IsFinite (ofFields binary64 s (suc x) t) s (2 ^ 52 + t) x
 unfolding ofFields
 high-value s x t h l =
     let e : eqb (suc x) 2047 ≡ false = ne-eqb (suc x) 2047 (λ (e : suc x ≡ 2047). omega arith) in

@@ -15,7 +15,7 @@ use Rattle.simulator.proofs.Few.{kind-few}
 use Rattle.entries.specs.Entry.{entryOf, inLimits}
 use Rattle.entries.specs.declared.entry.Entry.{Entry}
 use Rattle.tree.specs.Size.{levelsOf, capOf}
-use Rattle.tree.specs.declared.Put.{Put}
+use Rattle.tree.specs.declared.put.Put.{Put}
 use Rattle.tree.proofs.Levels.{levels-hold}
 use Rattle.board.specs.Place.{putPlace, writtenOf, writtenLeft}
 use Rattle.board.specs.declared.place.Written.{Written}

@@ -6,11 +6,11 @@ use borrow.Author.Needs.{needs}
 use Rattle.board.proofs.place.put_at.Statement.{statement}
 use Rattle.board.proofs.place.put_at.Tie as tie
 
-add-climb : tie.Need-add-climb
-add-climb c = search needs
+add-quick-climb : tie.Need-add-quick-climb
+add-quick-climb c = search needs
 
-climb-requires : tie.Need-climb-requires
-climb-requires c κs = search needs
+quick-climb-requires : tie.Need-quick-climb-requires
+quick-climb-requires c κs = search needs
 
 enum-known-number : tie.Need-enum-known-number
 enum-known-number c = search needs
@@ -32,7 +32,7 @@ returns c =
     let at1 = c .before .before .before .before .before in
     let at2 = at1 .before .before .before .before .before in
     let a = at2 .args in
-    puts.stopped (a .size) (a .place) (a .entry) (a .start) (a .board .now) (a .starts .now) _ _ (so (c .before .number .given .1) (at1 .climb .ensures .0)) (at1 .climb .ensures .1)
+    puts.stopped (a .size) (a .place) (a .entry) (a .start) (a .board .now) (a .starts .now) _ _ (so (c .before .number .given .1) (at1 .quick-climb .ensures .0)) (at1 .quick-climb .ensures .1)
 
 same-length-2 : tie.Need-same-length-2
 same-length-2 c = search needs
@@ -45,14 +45,14 @@ returns-2 c =
     let at1 = c .before .before .before .before in
     let at2 = at1 .before .before .before .before .before in
     let a = at2 .args in
-    puts.stored (a .size) (a .place) (a .entry) (a .start) (a .board .now) (a .starts .now) _ (so (c .enum-told .given .1) (at1 .climb .ensures .0)) (at1 .climb .ensures .1)
+    puts.stored (a .size) (a .place) (a .entry) (a .start) (a .board .now) (a .starts .now) _ (so (c .enum-told .given .1) (at1 .quick-climb .ensures .0)) (at1 .quick-climb .ensures .1)
 
 pub put-at-spec : {M : Type 1} → statement M
 put-at-spec =
     tie.close
     (tie.spec
-    add-climb
-    climb-requires
+    add-quick-climb
+    quick-climb-requires
     enum-known-number
     enum-told
     mul-starts

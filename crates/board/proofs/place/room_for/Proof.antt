@@ -9,7 +9,7 @@ use Rattle.board.specs.declared.place.Room.{Room}
 use Rattle.board.specs.declared.place.Room.the-variants as room
 use Rattle.board.proofs.Rooms as rooms
 use Rattle.tree.specs.Size.{capOf}
-use Rattle.tree.specs.declared.Size.{Size}
+use Rattle.tree.specs.declared.size.Size.{Size}
 use borrow.Author.Needs.{needs}
 use Rattle.board.proofs.place.room_for.Statement.{statement}
 use Rattle.board.proofs.place.room_for.Tie as tie

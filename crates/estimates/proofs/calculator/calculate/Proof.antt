@@ -23,8 +23,8 @@ calculate-combo-based-estimated-miss-count-requires c κs = search needs
 score-based-requires : tie.Need-score-based-requires
 score-based-requires c κs = search needs
 
-effective-requires : tie.Need-effective-requires
-effective-requires c κs = search needs
+effective-miss-count-requires : tie.Need-effective-miss-count-requires
+effective-miss-count-requires c κs = search needs
 
 returns-2 : tie.Need-returns-2
 unfolding estimatesOf
@@ -35,7 +35,7 @@ returns-2 c =
     let at4 = at3 .before in
     let at5 = at4 .before in
     simp (
-      c .effective .ensures,
+      c .effective-miss-count .ensures,
       at1 .score-based .ensures,
       at2 .calculate-combo-based-estimated-miss-count .ensures,
       at5 .accuracy .ensures,
@@ -51,5 +51,5 @@ calculate-spec =
     returns
     calculate-combo-based-estimated-miss-count-requires
     score-based-requires
-    effective-requires
+    effective-miss-count-requires
     returns-2)

@@ -1,8 +1,7 @@
 -- By cases on the record.
-use Prim.Native.Nat.{ℕ, _+_, _≤_, _<_}
+use Prim.Native.Nat.{_<_}
 use native.Mathlib.Omega.{arith}
 use Rattle.rules.specs.Limits.{maxBreaks}
-use Rattle.map_file.specs.View.{Fits}
 use Rattle.map_file.specs.View.{countedIn}
 use borrow.Author.Needs.{needs}
 use Rattle.map_file.proofs.file.count.Statement.{statement}

@@ -1,9 +1,9 @@
 -- The record is read from the rest of the input; what is read ends within it and leaves the counts within their limits.
-use mathlib.Core.Path.{_≡_, ap, _∙_}
+use mathlib.Core.Path.{ap, _∙_}
 use mathlib.Core.List.{List}
-use Prim.Native.Nat.{ℕ, _+_, _≤_, _<_}
+use Prim.Native.Nat.{ℕ}
 use native.Mathlib.Omega.{arith}
-use lib.ListN.{length, drop, length-drop, drop-of-length-le}
+use lib.ListN.{drop, length-drop, drop-of-length-le}
 use denote.Ref.{now}
 use Rattle.rules.specs.Refusals.{_>>=_, _>>_, refuse_when_}
 use Rattle.records.specs.Records.{recordRead}

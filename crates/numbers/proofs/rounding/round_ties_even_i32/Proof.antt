@@ -1,84 +1,62 @@
--- `numbers::rounding::round_ties_even_i32` is right since a finite x is significand * 2 ^ exponent / 2 ^ 1074, and the nearest whole number is the same for every
--- fraction that x equals; what is above 2 ^ 31 makes no difference to the saturated result. Assumes nothing.
-use mathlib.Core.Path.{sym, ap, _∙_, subst}
-use Prim.Native.Nat.{ℕ, _*_, _^_}
+-- `numbers::rounding::round_ties_even_i32` is right since the sum with 3 * 2 ^ 51 is x rounded, and its bits are that many above those of 3 * 2 ^ 51; any other x
+-- goes by its parts. Assumes nothing.
+use mathlib.Core.Path.{_≡_, sym, ap, _∙_, subst}
+use Prim.Native.Nat.{_^_, _<_}
+use native.Mathlib.Omega.{arith}
 use borrow.Author.Needs.{needs, sfits-of}
+use mathlib.Core.Bool.{Bool, not}
 use lib.Dec.{T}
-use lib.Ieee.Nearest.{closest}
-use lib.Pow.{pow-pos}
-use mir.Syntax.{w32}
-use mir.ValLaws.{toZ-ofZ}
-use Rattle.numbers.specs.Rounding.{saturated}
-use Rattle.numbers.proofs.bits.Fields.{IsFinite, parts-value}
-use Rattle.numbers.proofs.rounding.Even.{even-nan, even-inf, even-at}
-use Rattle.numbers.proofs.rounding.Range.{saturated-min}
+use lib.IntN.{ℤ, pos, _-ℤ_}
+use lib.Ieee.{binary64, add, ofBits, toBits}
+use lib.Signed.{mag}
+use mir.Syntax.{w32, w64}
+use mir.Val.{SFits, toZ, ofZ}
+use mir.ValLaws.{toZ-pos, toZ-ofZ}
+use Rattle.numbers.specs.Rounding.{roundTiesEvenI32}
+use Rattle.numbers.proofs.rounding.Added.{BySum, by-sum}
 use Rattle.numbers.proofs.rounding.round_ties_even_i32.Statement.{statement}
 use Rattle.numbers.proofs.rounding.round_ties_even_i32.Tie as tie
 
-split-requires : tie.Need-split-requires
-split-requires c κs = search needs
+module _ (c : tie.Then1) where
+  rounded : BySum (c .before .args .x)
+  rounded = by-sum (c .before .args .x) (c .if1 .taken)
 
-enum-told : tie.Need-enum-told
-enum-told c = search needs
+  abbrev above : ℤ
+  above = toZ w64 (toBits binary64 (add binary64 (c .before .args .x) (ofBits binary64 0x4338000000000000))) -ℤ pos 0x4338000000000000
 
-enum-known-parts : tie.Need-enum-known-parts
-enum-known-parts c = search needs
+  above-is : above ≡ roundTiesEvenI32 (c .before .args .x)
+  above-is = ap (λ (z : ℤ). z -ℤ pos 0x4338000000000000) (toZ-pos w64 _ (rounded .bits-lt)) ∙ rounded .is
 
-saturate-i32-requires : tie.Need-saturate-i32-requires
-saturate-i32-requires c κs = search needs
+  small : mag above < 2 ^ 31
+  small = subst (λ (z : ℤ). mag z < 2 ^ 31) (sym above-is) (rounded .small)
 
-enum-known-parts-2 : tie.Need-enum-known-parts-2
-enum-known-parts-2 c = search needs
+  back : toZ w64 (ofZ w64 above) ≡ above
+  back = toZ-ofZ w64 above (sfits-of (omega (arith, small)))
 
--- what the finite arm knows of x
-finite-arm : (c : tie.After-known-told2) →
-    (let g = c .before .parts2 .given .0 in IsFinite (c .before .before .before .before .args .x) (g .0) (g .1 .0) (g .1 .1 .0))
-finite-arm c =
-    let at-match = c .before .before in
-    let g = c .before .parts2 .given .0 in
-    parts-value (at-match .before .before .args .x) (subst T (sym (at-match .before .before .good .0 .1)) tt) (g .0) (g .1 .0) (g .1 .1 .0)
-    (sym (at-match .before .split .ensures) ∙ c .before .parts2 .given .1)
+  narrow : SFits w32 (toZ w64 (ofZ w64 above))
+  narrow = subst (λ (z : ℤ). SFits w32 z) (sym back) (sfits-of small)
 
-magnitude-requires : tie.Need-magnitude-requires
-magnitude-requires c κs = (finite-arm c .small, finite-arm c .normal)
+float-to-bits-result : tie.Need-float-to-bits-result
+float-to-bits-result c = subst (λ (b : Bool). T (not b)) (sym (rounded c .number)) tt
 
-saturate-i32-requires-2 : tie.Need-saturate-i32-requires-2
-saturate-i32-requires-2 c κs = search needs
+cast-result : tie.Need-cast-result
+cast-result c = sfits-of (rounded c .bits-lt)
+
+sub-result : tie.Need-sub-result
+sub-result c = sfits-of (omega (arith, small c))
+
+cast-result-2 : tie.Need-cast-result-2
+cast-result-2 c = narrow c
+
+round-parts-requires : tie.Need-round-parts-requires
+round-parts-requires c κs = search needs
 
 returns : tie.Need-returns
-returns c = even-nan (c .before .before .before .args .x) (sym (c .before .before .split .ensures) ∙ c .enum-told .given .1)
+returns c = toZ-ofZ w32 _ (narrow c) ∙ back c ∙ above-is c
 
 returns-2 : tie.Need-returns-2
-returns-2 c =
-    let at-match = c .before .before .before in
-    toZ-ofZ w32 (c .saturate-i32 .result) (sfits-of (c .saturate-i32 .ok))
-    ∙ c .saturate-i32 .ensures
-    ∙ even-inf (at-match .before .before .args .x) (c .before .before .parts .given .0 .0)
-    (sym (at-match .before .split .ensures) ∙ c .before .before .parts .given .1)
-
-returns-3 : tie.Need-returns-3
-returns-3 c =
-    let arm = c .before .before in
-    let x = arm .before .before .before .before .args .x in
-    let g = arm .before .parts2 .given .0 in
-    let a = g .1 .0 * 2 ^ g .1 .1 .0 in
-    toZ-ofZ w32 (c .saturate-i322 .result) (sfits-of (c .saturate-i322 .ok))
-    ∙ c .saturate-i322 .ensures
-    ∙ ap (λ (k : ℕ). saturated (g .0) k) (c .before .magnitude .ensures)
-    ∙ saturated-min (g .0) (closest a (2 ^ 1074))
-    ∙ even-at x (g .0) a (2 ^ 1074) (pow-pos 1074) (finite-arm arm .value)
+returns-2 c = search needs
 
 pub round-ties-even-i32-spec : {M : Type 1} → statement M
 round-ties-even-i32-spec =
-    tie.close
-    (tie.spec
-    split-requires
-    enum-told
-    enum-known-parts
-    saturate-i32-requires
-    enum-known-parts-2
-    magnitude-requires
-    saturate-i32-requires-2
-    returns
-    returns-2
-    returns-3)
+    tie.close (tie.spec float-to-bits-result cast-result sub-result cast-result-2 round-parts-requires returns returns-2)

@@ -1,8 +1,7 @@
 -- All objects of a map are passed by the largest number.
+use mathlib.Core.Path.{subst}
 use denote.Ref.{now}
-use Rattle.map_file.specs.File.{fileOf}
-use Rattle.rules.proofs.Laws.{so}
-use Rattle.scoring.specs.Scores.{scoresOf}
+use Rattle.scoring.specs.View.{PlaysOf}
 use Rattle.scoring.proofs.Answers.{map-refused, map-scored}
 use borrow.Author.Needs.{needs}
 use Rattle.scoring.proofs.score.score_map.Statement.{statement}
@@ -21,13 +20,13 @@ returns : tie.Need-returns
 returns c =
     let at1 = c .before .before .before in
     let at2 = at1 .before .before in
-    map-refused 18446744073709551615 0 (scoresOf (fileOf (now (at2 .args .s)))) _ _ (so (c .before .number .given .1) (at1 .check-plays .ensures))
+    map-refused (now (at2 .args .s)) 18446744073709551615 0 _ _ (subst (PlaysOf (now (at2 .args .s)) 18446744073709551615 0) (c .before .number .given .1) (at1 .check-plays .ensures))
 
 returns-2 : tie.Need-returns-2
 returns-2 c =
     let at1 = c .before .before .before in
     let at2 = at1 .before .before in
-    map-scored (now (at2 .args .s)) 0 _ _ (so (c .before .a .given .1) (at1 .check-plays .ensures))
+    map-scored (now (at2 .args .s)) 0 _ _ _ (subst (PlaysOf (now (at2 .args .s)) 18446744073709551615 0) (c .before .a .given .1) (at1 .check-plays .ensures))
 
 pub score-map-spec : {M : Type 1} → statement M
 score-map-spec =

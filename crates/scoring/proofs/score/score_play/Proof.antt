@@ -1,9 +1,8 @@
 -- The file is read with as many objects as the play passed, and the play is scored on their attributes.
+use mathlib.Core.Path.{subst}
 use denote.Ref.{now}
+use Rattle.scoring.specs.View.{PlaysOf}
 use mathlib.Core.Path.{refl}
-use Rattle.map_file.specs.File.{fileOf}
-use Rattle.rules.proofs.Laws.{so}
-use Rattle.scoring.specs.Scores.{scoresOf}
 use Rattle.scoring.proofs.Answers.{play-refused, play-scored}
 use borrow.Author.Needs.{needs}
 use Rattle.scoring.proofs.score.score_play.Statement.{statement}
@@ -28,14 +27,14 @@ returns : tie.Need-returns
 returns c =
     let at1 = c .before .before .before in
     let at2 = at1 .before .before .before in
-    play-refused _ 0 (scoresOf (fileOf (now (at2 .args .s)))) _ _ (so (c .before .number .given .1) (at1 .check-plays .ensures)) (at2 .args .play)
+    play-refused (now (at2 .args .s)) (at2 .args .play .«passed_objects») 0 _ _ (subst (PlaysOf (now (at2 .args .s)) (at2 .args .play .«passed_objects») 0) (c .before .number .given .1) (at1 .check-plays .ensures)) (at2 .args .play)
 
 returns-2 : tie.Need-returns-2
 returns-2 c =
     let at1 = c .before .before in
     let at2 = at1 .before .before in
     let at3 = at2 .before .before .before in
-    play-scored _ 0 (scoresOf (fileOf (now (at3 .args .s)))) _ _ (so (at1 .a .given .1) (at2 .check-plays .ensures)) (at3 .args .play) _ refl (c .score-given .ensures)
+    play-scored (now (at3 .args .s)) (at3 .args .play .«passed_objects») 0 _ _ _ (subst (PlaysOf (now (at3 .args .s)) (at3 .args .play .«passed_objects») 0) (at1 .a .given .1) (at2 .check-plays .ensures)) (at3 .args .play) _ refl (c .score-given .ensures)
 
 pub score-play-spec : {M : Type 1} → statement M
 score-play-spec =

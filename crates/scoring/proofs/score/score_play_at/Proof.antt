@@ -1,8 +1,7 @@
 -- The loop over the plays gives the one at the index.
+use mathlib.Core.Path.{subst}
 use denote.Ref.{now}
-use Rattle.map_file.specs.File.{fileOf}
-use Rattle.rules.proofs.Laws.{so}
-use Rattle.scoring.specs.Scores.{scoresOf}
+use Rattle.scoring.specs.View.{PlaysOf}
 use Rattle.scoring.proofs.Answers.{listed-refused, listed-none, listed-scored}
 use borrow.Author.Needs.{needs}
 use Rattle.scoring.proofs.score.score_play_at.Statement.{statement}
@@ -27,21 +26,21 @@ returns : tie.Need-returns
 returns c =
     let at1 = c .before .before .before in
     let at2 = at1 .before .before in
-    listed-refused 18446744073709551615 (at2 .args .index) (scoresOf (fileOf (now (at2 .args .s)))) _ _ (so (c .before .number .given .1) (at1 .check-plays .ensures))
+    listed-refused (now (at2 .args .s)) 18446744073709551615 (at2 .args .index) _ _ (subst (PlaysOf (now (at2 .args .s)) 18446744073709551615 (at2 .args .index)) (c .before .number .given .1) (at1 .check-plays .ensures))
 
 returns-2 : tie.Need-returns-2
 returns-2 c =
     let at1 = c .before .before .before in
     let at2 = at1 .before .before in
     let at3 = at2 .before .before in
-    listed-none 18446744073709551615 (at3 .args .index) (scoresOf (fileOf (now (at3 .args .s)))) _ _ (so (at1 .wanted .given .1) (at2 .check-plays .ensures)) _ (c .enum-told .given .1)
+    listed-none (now (at3 .args .s)) 18446744073709551615 (at3 .args .index) _ _ _ (subst (PlaysOf (now (at3 .args .s)) 18446744073709551615 (at3 .args .index)) (at1 .wanted .given .1) (at2 .check-plays .ensures)) _ (c .enum-told .given .1)
 
 returns-3 : tie.Need-returns-3
 returns-3 c =
     let at1 = c .before .before .before .before in
     let at2 = at1 .before .before in
     let at3 = at2 .before .before in
-    listed-scored 18446744073709551615 (at3 .args .index) (scoresOf (fileOf (now (at3 .args .s)))) _ _ (so (at1 .wanted .given .1) (at2 .check-plays .ensures)) _ (c .before .wanted2 .given .1)
+    listed-scored (now (at3 .args .s)) 18446744073709551615 (at3 .args .index) _ _ _ (subst (PlaysOf (now (at3 .args .s)) 18446744073709551615 (at3 .args .index)) (at1 .wanted .given .1) (at2 .check-plays .ensures)) _ (c .before .wanted2 .given .1)
 
 pub score-play-at-spec : {M : Type 1} → statement M
 score-play-at-spec =

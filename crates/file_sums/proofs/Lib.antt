@@ -1,4 +1,0 @@
-pub mod Passed
-pub mod Summing
-pub mod Tallies
-pub mod Running

@@ -1,0 +1,3 @@
+pub mod Objects
+pub mod Map
+pub mod Attributes

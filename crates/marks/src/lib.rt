@@ -1,0 +1,73 @@
+// The states behind some objects of a map, kept, so that any number of passed objects is a few steps from one of them.
+use map_reader::attributes::attributes_of;
+use map_reader::map::Map;
+use map_reader::map::objects_from;
+use map_reader::objects::Objects;
+use map_reader::objects::Ran;
+use map_reader::objects::run;
+use numbers::naturals::least;
+use play_score::Scored;
+use play_score::score_on;
+use play_state::Play;
+ghost use mathlib.Core.Path.{_≡_};
+ghost use Prim.Native.Nat.{_≤_, _<_};
+ghost use Rattle.rules.specs.Limits.{maxObjects};
+ghost use Rattle.map_reader.specs.Objects.{Small};
+ghost use Rattle.marks.specs.Marks.{strideOf, stateOr, IsMap, MarksOf, markBefore, IsMark, scoredFrom};
+
+// The i-th is behind i strides of objects.
+pub struct Marks {
+    pub states: [Objects; 128],
+}
+
+// The objects from one mark to the next: few enough for 128 marks.
+fn stride_of(objects: u64) -> u64
+    ensures { λ r. ⌜ r ≡ strideOf objects ⌝ }
+{
+    objects / 128 + 1
+}
+
+// The state behind `count` objects, from one before it.
+fn state_at(s: &[u8], from: Objects, count: u64) -> Objects
+    requires { ⌜ Small (now s) from × (count ≤ maxObjects) ⌝ }
+    ensures { λ r. ⌜ r ≡ stateOr (now (s .entry)) from count ⌝ }
+{
+    match run(s, from, count) {
+        Ran::To(state) => state,
+        Ran::OverBonus(_) => from,
+    }
+}
+
+pub fn marks_of(s: &[u8], map: Map) -> Marks
+    requires { ⌜ IsMap (now s) map ⌝ }
+    ensures { λ r. ⌜ MarksOf (now (s .entry)) map r ⌝ }
+{
+    let stride = stride_of(map.objects);
+    let mut state = Objects::new(objects_from(map.breaks));
+    let mut states = [state; 128];
+    let mut i = 1;
+    let mut count = stride;
+    while count <= map.objects {
+        state = state_at(s, state, count);
+        states[i] = state;
+        i += 1;
+        count += stride;
+    }
+    Marks { states }
+}
+
+// The last mark that is not behind the objects that a play passed.
+pub fn mark_before(objects: u64, play: Play) -> usize
+    ensures { λ r. ⌜ (r ≡ markBefore objects play) × (r < 128) ⌝ }
+{
+    (least(play.passed_objects as u64, objects) / stride_of(objects)) as usize
+}
+
+// A play on a map, from the mark before it.
+pub fn score_from(s: &[u8], map: Map, mark: Objects, play: Play) -> Scored
+    requires { ⌜ IsMap (now s) map × IsMark (now s) map (markBefore (map .objects) play) mark ⌝ }
+    ensures { λ r. ⌜ r ≡ scoredFrom (now (s .entry)) map mark play ⌝ }
+{
+    let passed = state_at(s, mark, least(play.passed_objects as u64, map.objects));
+    score_on(play, attributes_of(s, Map { passed, ..map }))
+}

@@ -12,8 +12,10 @@ use Rattle.map_reader.specs.declared.map.Map.{Map}
 use Rattle.play_reader.proofs.Playing.{ReadTo}
 use Rattle.simulator.specs.Attributes.{scoreAttributesAt}
 use Rattle.simulator.specs.declared.attributes.ScoreAttributes.{ScoreAttributes}
-use Rattle.scoring.specs.Scores.{Outcome, refusal, values, Scores, playScores, scoresOf}
+use Rattle.scoring.specs.Scores.{Outcome, refusal, values, Scores, playScoreOn, playScores, scoresOf}
+use Rattle.play_score.specs.PlayRules.{scoredOf}
 use Rattle.play_score.specs.declared.PlayScore.{PlayScore}
+use Rattle.play_score.specs.declared.Scored.{Scored}
 use Rattle.scoring.specs.declared.plays.Wanted.{Wanted}
 use Rattle.scoring.specs.declared.plays.Wanted.the-variants as wanted
 use Rattle.scoring.specs.declared.plays.Checked.{Checked}
@@ -54,6 +56,10 @@ pub record AnyPlaying (s : List ℕ) (m : Map) (at : ℕ) (w : Wanted) : Type 0 
 pub record Attributed (s : List ℕ) (p : ℕ) (m : Map) (a : ScoreAttributes) : Type 0 where
   pub map : MapIs s p m
   pub attributes : a ≡ scoreAttributesAt (map .file .map) p
+
+-- the score of a play on the map, whatever is known of it
+abbrev pub ScoredOn : List ℕ → ℕ → Map → ScoreAttributes → Play → Scored → Type 0
+ScoredOn s p m a q r = (k : Attributed s p m a) → r ≡ scoredOf (playScoreOn (k .map .file .map) q)
 
 -- at the end of a file: the play at the index i
 abbrev pub checkedOf : ℕ → Outcome Scores → Checked

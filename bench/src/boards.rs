@@ -56,7 +56,8 @@ pub struct BoardTimes {
 pub fn measure(case: &Case, samples: Samples) -> BoardTimes {
     let original = Original::new(&case.edited);
     let board = checked(case, &original);
-    let [read_map, score_map, build, plain_build, walk] = whole_map(case, &original, samples);
+    let [read_map, score_map] = readings(case, samples);
+    let [build, plain_build, walk] = whole_map(case, &original, samples);
     let (random, in_order) = (Turns::random, Turns::in_order);
     let reads = |plays: &[Play], turns: fn(usize) -> Turns| {
         self::reads(case, &board, plays, turns(plays.len()), samples)
@@ -130,11 +131,10 @@ fn check_factor_reads(case: &Case, original: &Original, board: &Lent, given: &[B
     }
 }
 
-/// Reading the file by both calls, our build, plain Rust's, and the Rust's walk.
-fn whole_map(case: &Case, original: &Original, samples: Samples) -> [f64; 5] {
-    let (mut ours, mut plain) = (Lent::new(case.size), Lent::new(case.size));
-    let mut turns = Turns::random(case.all_passed.len());
-    let medians = samples.medians(
+/// The two calls that read the file, by themselves: each comes behind the other, so that neither finds the branches of
+/// a third side in the processor.
+fn readings(case: &Case, samples: Samples) -> [f64; 2] {
+    samples.medians(
         calls(case.size),
         [
             &mut || {
@@ -143,6 +143,17 @@ fn whole_map(case: &Case, original: &Original, samples: Samples) -> [f64; 5] {
             &mut || {
                 black_box(proved::score_map(black_box(&case.file)));
             },
+        ],
+    )
+}
+
+/// Our build, plain Rust's, and the Rust's walk.
+fn whole_map(case: &Case, original: &Original, samples: Samples) -> [f64; 3] {
+    let (mut ours, mut plain) = (Lent::new(case.size), Lent::new(case.size));
+    let mut turns = Turns::random(case.all_passed.len());
+    let medians = samples.medians(
+        calls(case.size),
+        [
             &mut || {
                 black_box(ours.build(black_box(&case.file)));
             },

@@ -1,11 +1,19 @@
--- What a host gets of a call with factors, field by field: names that stand for themselves, so that none can change places.
+-- What a host gets, computed: the words of a board at the edges, and the fields of a call with factors by names that stand for themselves, so that none
+-- can change places.
 use Prim.Native.Nat.{ℕ}
 use mathlib.Core.Path.{_≡_, refl}
 use Rattle.slider_breaks.specs.Given.{BreaksScore}
 use Rattle.slider_breaks.specs.Given as given·breaks
 use Rattle.host.specs.Answer.{playAnswerIn}
+use Rattle.host.specs.Status.{boardWords}
+use Rattle.tree.specs.Size.{levelsOf, levelsFrom}
 use Rattle.host.specs.Breaks.{factorsIn, breaksAnswerOf}
 use Rattle.host.specs.declared.breaks.HostFactors.{HostFactors}
+
+-- no object, one, 4,097 and the most that a map has; then one more
+words-at-the-edges : (boardWords 0 ≡ 26) × (boardWords 1 ≡ 26) × (boardWords 4097 ≡ 212992) × (boardWords 8192 ≡ 212992) × (boardWords 8193 ≡ 0)
+unfolding levelsOf levelsFrom
+words-at-the-edges = (refl, refl, refl, refl, refl)
 
 factors-cross : (f : HostFactors) → (factorsIn f .aim ≡ f .aim) × (factorsIn f .speed ≡ f .speed)
 factors-cross f = (refl, refl)

@@ -1,4 +1,4 @@
--- Each mark is the state behind its objects, and a play from the mark before it has the attributes of its passed objects.
+-- Each mark is the state behind its objects, and a play from a state before it has the attributes of its passed objects.
 use mathlib.Core.Path.{_≡_, refl, sym, ap, _∙_, subst}
 use mathlib.Core.Bool.{Bool, true, false}
 use mathlib.Core.List.{List}
@@ -31,7 +31,7 @@ use Rattle.map_reader.proofs.Runs.{ranThen, ran-append}
 use Rattle.map_reader.proofs.Attributed.{limits, attributes-are}
 use Rattle.map_reader.proofs.Passed.{attributes-passed}
 use Rattle.play_score.specs.PlayRules.{playScore, scoredOf}
-use Rattle.marks.specs.Marks.{strideOf, IsMap, stateIn, stateOr, IsMark, MarksOf, passedOf, markBefore, withPassed, scoredFrom}
+use Rattle.marks.specs.Marks.{strideOf, IsMap, stateIn, stateOr, IsMark, MarksOf, passedOf, markBefore, StateBefore, withPassed, scoredFrom}
 use Rattle.marks.specs.declared.Marks.{Marks}
 
 -- ---- numbers of marks
@@ -173,15 +173,21 @@ module _ {s : List ℕ} {m : Map} {stride : ℕ} {state : Objects} {states : Lis
             ∙ here
             ∙ ap (λ (n : ℕ). ranOf n s (objectsAt (objectsFrom (m .breaks)))) steps
 
--- ---- a play from its mark
-module _ {s : List ℕ} {m : Map} {marks : Marks} (k : MarksOf s m marks) where
-  -- as the code reads it, whatever stands for a state that is not there
-  pub mark-there : (q : Play) (i : ℕ) (d : Objects) → i ≡ markBefore (m .objects) q → IsMark s m (markBefore (m .objects) q) (getD (marks .states) i d)
-  mark-there q i d e =
-      let h = mark-stands (m .objects) q in
-      ap (λ (n : ℕ). ran.To (getD (marks .states) n d)) e ∙ k .each (markBefore (m .objects) q) d (omega (arith, h))
+-- ---- a play from a state before it
+-- from its mark, as the code reads it, whatever stands for a state that is not there
+pub mark-there : {s : List ℕ} {m : Map} {marks : Marks} → MarksOf s m marks → (q : Play) (i : ℕ) (d : Objects) → i ≡ markBefore (m .objects) q
+    → StateBefore s m q (getD (marks .states) i d)
+mark-there {m = m} {marks = marks} k q i d e = record {
+  n = markBefore (m .objects) q * strideOf (m .objects);
+  passed = mark-stands (m .objects) q;
+  is = (let h = mark-stands (m .objects) q in ap (λ (n : ℕ). ran.To (getD (marks .states) n d)) e ∙ k .each (markBefore (m .objects) q) d (omega (arith, h)));
+}
 
-module _ {s : List ℕ} {p : ℕ} {m : Map} (k : MapIs s p m) (q : Play) (mark : Objects) (e : IsMark s m (markBefore (m .objects) q) mark) where
+-- from the first object
+pub first-before : (s : List ℕ) (m : Map) (q : Play) → StateBefore s m q (objectsAt (objectsFrom (m .breaks)))
+first-before s m q = record { n = 0; passed = omega arith; is = ran-none 0 s (objectsAt (objectsFrom (m .breaks))) refl }
+
+module _ {s : List ℕ} {p : ℕ} {m : Map} (k : MapIs s p m) (q : Play) (x : Objects) (e : StateBefore s m q x) where
   abbrev is-map : IsMap s m
   is-map = record { p = p; is = k }
 
@@ -189,7 +195,7 @@ module _ {s : List ℕ} {p : ℕ} {m : Map} (k : MapIs s p m) (q : Play) (mark :
   n = passedOf (m .objects) q
 
   -- the map with the state behind the play's passed objects
-  pub map-passed : MapIs s n (withPassed m (stateOr s mark n))
+  pub map-passed : MapIs s n (withPassed m (stateOr s x n))
   map-passed = record {
     file = k .file;
     chain = k .chain;
@@ -201,12 +207,12 @@ module _ {s : List ℕ} {p : ℕ} {m : Map} (k : MapIs s p m) (q : Play) (mark :
     breaks = k .breaks;
     objects = k .objects;
     first = k .first;
-    passed = behind-state is-map n (stateOr s mark n) (omega arith) (behind-later is-map _ n mark (mark-stands (m .objects) q) (omega arith) e);
+    passed = behind-state is-map n (stateOr s x n) (omega arith) (behind-later is-map (e .n) n x (e .passed) (omega arith) (e .is));
     states = k .states;
     nexts = k .nexts;
   }
 
-  pub scored-is : scoredFrom s m mark q ≡ scoredOf (playScore q (scoreAttributesAt (k .file .map) (q .«passed_objects»)))
+  pub scored-is : scoredFrom s m x q ≡ scoredOf (playScore q (scoreAttributesAt (k .file .map) (q .«passed_objects»)))
   unfolding map-passed
   scored-is =
       let z = k .objects in

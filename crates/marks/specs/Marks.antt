@@ -1,4 +1,4 @@
--- The states kept at marks, and a play from the mark before it.
+-- The states kept at marks, and a play from a state before it.
 use Prim.Native.Nat.{ℕ, _+_, _*_, _-_, _/_, _≤_, min}
 use mathlib.Core.Path.{_≡_}
 use mathlib.Core.List.{List}
@@ -44,6 +44,12 @@ passedOf objects q = min (q .«passed_objects») objects
 
 abbrev pub markBefore : ℕ → Play → ℕ
 markBefore objects q = passedOf objects q / strideOf objects
+
+-- a state behind objects that a play passed
+pub record StateBefore (s : List ℕ) (m : Map) (q : Play) (x : Objects) : Type 0 where
+  pub n : ℕ
+  pub passed : n ≤ passedOf (m .objects) q
+  pub is : ran.To x ≡ ranOf n s (objectsAt (objectsFrom (m .breaks)))
 
 abbrev pub withPassed : Map → Objects → Map
 withPassed m x = record { end = m .end; settings = m .settings; breaks = m .breaks; objects = m .objects; «first_start» = m .«first_start»; passed = x }

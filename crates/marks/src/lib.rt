@@ -12,8 +12,9 @@ use play_state::Play;
 ghost use mathlib.Core.Path.{_≡_};
 ghost use Prim.Native.Nat.{_≤_, _<_};
 ghost use Rattle.rules.specs.Limits.{maxObjects};
-ghost use Rattle.map_reader.specs.Objects.{Small};
-ghost use Rattle.marks.specs.Marks.{strideOf, stateOr, IsMap, MarksOf, markBefore, IsMark, scoredFrom};
+ghost use Rattle.map_reader.specs.Objects.{Small, objectsAt};
+ghost use Rattle.map_reader.specs.Map.{objectsFrom};
+ghost use Rattle.marks.specs.Marks.{strideOf, stateOr, IsMap, MarksOf, markBefore, StateBefore, scoredFrom};
 
 // The i-th is behind i strides of objects.
 pub struct Marks {
@@ -63,11 +64,19 @@ pub fn mark_before(objects: u64, play: Play) -> usize
     (least(play.passed_objects as u64, objects) / stride_of(objects)) as usize
 }
 
-// A play on a map, from the mark before it.
-pub fn score_from(s: &[u8], map: Map, mark: Objects, play: Play) -> Scored
-    requires { ⌜ IsMap (now s) map × IsMark (now s) map (markBefore (map .objects) play) mark ⌝ }
-    ensures { λ r. ⌜ r ≡ scoredFrom (now (s .entry)) map mark play ⌝ }
+// A play on a map, from a state before it.
+pub fn score_from(s: &[u8], map: Map, before: Objects, play: Play) -> Scored
+    requires { ⌜ IsMap (now s) map × StateBefore (now s) map play before ⌝ }
+    ensures { λ r. ⌜ r ≡ scoredFrom (now (s .entry)) map before play ⌝ }
 {
-    let passed = state_at(s, mark, least(play.passed_objects as u64, map.objects));
+    let passed = state_at(s, before, least(play.passed_objects as u64, map.objects));
     score_on(play, attributes_of(s, Map { passed, ..map }))
+}
+
+// A play on a map, from its first object.
+pub fn score_anew(s: &[u8], map: Map, play: Play) -> Scored
+    requires { ⌜ IsMap (now s) map ⌝ }
+    ensures { λ r. ⌜ r ≡ scoredFrom (now (s .entry)) map (objectsAt (objectsFrom (map .breaks))) play ⌝ }
+{
+    score_from(s, map, Objects::new(objects_from(map.breaks)), play)
 }

@@ -12,12 +12,16 @@ use Rattle.map_reader.specs.declared.map.Map.{Map}
 use Rattle.play_reader.proofs.Playing.{ReadTo}
 use Rattle.simulator.specs.Attributes.{scoreAttributesAt}
 use Rattle.simulator.specs.declared.attributes.ScoreAttributes.{ScoreAttributes}
-use Rattle.scoring.specs.Scores.{Outcome, refusal, values, Scores, playScores, scoresOf}
+use Rattle.scoring.specs.Scores.{Outcome, refusal, values, Scores, playScoreOn, playScores, scoresOf}
+use Rattle.play_score.specs.PlayRules.{scoredOf}
 use Rattle.play_score.specs.declared.PlayScore.{PlayScore}
+use Rattle.play_score.specs.declared.Scored.{Scored}
 use Rattle.scoring.specs.declared.plays.Wanted.{Wanted}
 use Rattle.scoring.specs.declared.plays.Wanted.the-variants as wanted
 use Rattle.scoring.specs.declared.plays.Checked.{Checked}
 use Rattle.scoring.specs.declared.plays.Checked.the-variants as checked
+use Rattle.scoring.specs.declared.score.ListedPlay.{ListedPlay}
+use Rattle.scoring.specs.declared.score.ListedPlay.the-variants as listed
 use Rattle.scoring.specs.declared.plays.Plays.{Plays}
 use Rattle.scoring.specs.declared.plays.Plays.the-variants as plays
 
@@ -53,6 +57,10 @@ pub record Attributed (s : List ℕ) (p : ℕ) (m : Map) (a : ScoreAttributes) :
   pub map : MapIs s p m
   pub attributes : a ≡ scoreAttributesAt (map .file .map) p
 
+-- the score of a play on the map, whatever is known of it
+abbrev pub ScoredOn : List ℕ → ℕ → Map → ScoreAttributes → Play → Scored → Type 0
+ScoredOn s p m a q r = (k : Attributed s p m a) → r ≡ scoredOf (playScoreOn (k .map .file .map) q)
+
 -- at the end of a file: the play at the index i
 abbrev pub checkedOf : ℕ → Outcome Scores → Checked
 checkedOf i (refusal n at) = checked.Refused n at
@@ -62,8 +70,13 @@ checkedOf i (values x) = checked.Good (wantedOf i (x .plays))
 abbrev pub CheckedFrom : List ℕ → Map → ℕ → Wanted → Checked → Type 0
 CheckedFrom s m at w r = (i : ℕ) → Playing s m at w i → r ≡ checkedOf i (scoresOf (fileOf s))
 
--- the map too, with the attributes of its first p objects
-pub data PlaysOf (s : List ℕ) (p i : ℕ) : Plays → Type 0 where
-  good : {m : Map} {a : ScoreAttributes} {w : Wanted} (k : MapIs s p m) (x : Scores) → scoresOf (fileOf s) ≡ values x → x .map ≡ k .file .map
-      → a ≡ scoreAttributesAt (x .map) p → w ≡ wantedOf i (x .plays) → PlaysOf s p i (plays.Good m a w)
-  refuses : {n at : ℕ} → scoresOf (fileOf s) ≡ refusal n at → PlaysOf s p i (plays.Refused n at)
+-- the map too, with the attributes of all objects
+pub data PlaysOf (s : List ℕ) : Plays → Type 0 where
+  good : {m : Map} {a : ScoreAttributes} (k : MapIs s 18446744073709551615 m) (x : Scores) → scoresOf (fileOf s) ≡ values x → x .map ≡ k .file .map
+      → a ≡ scoreAttributesAt (x .map) 18446744073709551615 → PlaysOf s (plays.Good m a)
+  refuses : {n at : ℕ} → scoresOf (fileOf s) ≡ refusal n at → PlaysOf s (plays.Refused n at)
+
+-- the wanted play of a good file
+abbrev pub listedBy : Wanted → ListedPlay
+listedBy (wanted.Ahead n) = listed.NoPlay
+listedBy (wanted.Is x) = listed.Score x

@@ -5,6 +5,7 @@ use map_reader::map::MapRead;
 use map_reader::map::read_passed;
 use marks::mark_before;
 use marks::marks_of;
+use marks::score_anew;
 use marks::score_from;
 use numbers::naturals::least;
 use play_reader::PlayRead;
@@ -17,7 +18,7 @@ use simulator::attributes::ScoreAttributes;
 ghost use mathlib.Core.Path.{_≡_};
 ghost use Rattle.map_file.specs.File.{fileOf};
 ghost use Rattle.scoring.specs.Scores.{scoresOf};
-ghost use Rattle.scoring.specs.View.{wantedAfter, passesAsMany, AnyPlaying, Attributed, checkedOf, CheckedFrom, PlaysOf};
+ghost use Rattle.scoring.specs.View.{wantedAfter, passesAsMany, AnyPlaying, Attributed, ScoredOn, checkedOf, CheckedFrom, PlaysOf};
 
 // The score of the wanted play, or how many plays stand between it and what was read.
 pub enum Wanted {
@@ -25,9 +26,9 @@ pub enum Wanted {
     Is(PlayScore),
 }
 
-// Of a file whose plays are all good: its map, the attributes of the first objects, and the wanted play.
+// Of a file whose plays are all good: its map, and the attributes of all objects.
 pub enum Plays {
-    Good(Map, ScoreAttributes, Wanted),
+    Good(Map, ScoreAttributes),
     Refused { number: u8, offset: usize },
 }
 
@@ -60,7 +61,7 @@ fn passes_as_many(play: Play, passed: u64, objects: u64) -> bool
     least(play.passed_objects as u64, objects) == least(passed, objects)
 }
 
-// The plays from an offset on, whatever they passed. The marks are made only here: most files have no such play.
+// The plays from an offset on, whatever they passed, from marks.
 fn check_any(s: &[u8], map: Map, from: usize, former: Wanted) -> Checked
     requires { ⌜ AnyPlaying (now s) map from former ⌝ }
     ensures { λ r. ⌜ CheckedFrom (now (s .entry)) map from former r ⌝ }
@@ -90,8 +91,38 @@ fn check_any(s: &[u8], map: Map, from: usize, former: Wanted) -> Checked
     Checked::Good(wanted)
 }
 
-// The plays behind a map, from the attributes of its passed objects as long as they passed as many.
-fn check_behind(s: &[u8], map: Map, a: ScoreAttributes, passed: u64, index: u64) -> Checked
+// To set marks costs a pass of all objects, and as much again as this many.
+const MARKS_COST: usize = 256;
+
+// Whether so many plays cost less from marks than each from the map's first object. Either way gives the same scores, so nothing is promised of it.
+fn marks_pay(plays: usize, objects: u64) -> bool {
+    if plays < 2 {
+        return false;
+    }
+    MARKS_COST / (plays - 1) < objects as usize
+}
+
+// Whether a play, the first of so many, is to be scored from marks.
+fn needs_marks(play: Play, passed: u64, objects: u64, plays: usize) -> bool {
+    if passes_as_many(play, passed, objects) {
+        return false;
+    }
+    marks_pay(plays, objects)
+}
+
+// A play behind its map, from the attributes of the first objects where it passed as many.
+fn score_behind(s: &[u8], map: Map, a: ScoreAttributes, passed: u64, play: Play) -> Scored
+    requires { ⌜ Attributed (now s) passed map a ⌝ }
+    ensures { λ r. ⌜ ScoredOn (now (s .entry)) passed map a play r ⌝ }
+{
+    if passes_as_many(play, passed, map.objects) {
+        return score_on(play, a);
+    }
+    score_anew(s, map, play)
+}
+
+// The plays behind a map, given the attributes of its first objects. Marks are made only where many plays passed other counts than these.
+pub fn check_behind(s: &[u8], map: Map, a: ScoreAttributes, passed: u64, index: u64) -> Checked
     requires { ⌜ Attributed (now s) passed map a ⌝ }
     ensures { λ r. ⌜ r ≡ checkedOf index (scoresOf (fileOf (now (s .entry)))) ⌝ }
 {
@@ -103,10 +134,10 @@ fn check_behind(s: &[u8], map: Map, a: ScoreAttributes, passed: u64, index: u64)
                 return Checked::Refused { number, offset: at };
             }
             PlayRead::Is(play) => {
-                if !passes_as_many(play, passed, map.objects) {
+                if needs_marks(play, passed, map.objects, (s.len() - at) / Play::SIZE) {
                     return check_any(s, map, at, wanted);
                 }
-                match score_on(play, a) {
+                match score_behind(s, map, a, passed, play) {
                     Scored::Refused(number) => {
                         return Checked::Refused { number, offset: at };
                     }
@@ -122,16 +153,16 @@ fn check_behind(s: &[u8], map: Map, a: ScoreAttributes, passed: u64, index: u64)
 }
 
 // Reads a file to its end, each play checked in its place.
-pub fn check_plays(s: &[u8], passed: u64, index: u64) -> Plays
-    ensures { λ r. ⌜ PlaysOf (now (s .entry)) passed index r ⌝ }
+pub fn check_plays(s: &[u8]) -> Plays
+    ensures { λ r. ⌜ PlaysOf (now (s .entry)) r ⌝ }
 {
-    match read_passed(s, passed) {
+    match read_passed(s, u64::MAX) {
         MapRead::Refused { number, offset } => Plays::Refused { number, offset },
         MapRead::Map(map) => {
             let a = attributes_of(s, map);
-            match check_behind(s, map, a, passed, index) {
+            match check_behind(s, map, a, u64::MAX, 0) {
                 Checked::Refused { number, offset } => Plays::Refused { number, offset },
-                Checked::Good(wanted) => Plays::Good(map, a, wanted),
+                Checked::Good(_) => Plays::Good(map, a),
             }
         }
     }

@@ -1,15 +1,12 @@
--- Each play is the definition's next; one that passed as many objects as the attributes are of is scored on these, and the first other one and
--- all behind it from marks.
-use mathlib.Core.Path.{sym, ap, _∙_}
+-- Each play is the definition's next, scored on the objects that it passed; where marks pay, it and all behind it are scored from them.
+use mathlib.Core.Path.{sym, ap}
 use Prim.Native.Nat.{_-_}
 use native.Mathlib.Omega.{arith}
-use borrow.Author.Tests.{not-false}
-use denote.Ref.{now}
 use lib.ListN.{length}
 use Rattle.rules.proofs.Laws.{so}
 use Rattle.play_reader.proofs.Playing.{read-inside}
 use Rattle.scoring.specs.View.{Attributed, checkedOf}
-use Rattle.scoring.proofs.Playing.{PlayingOn, on-start, on-refused, on-more, playing-cut, playing-end, same-passed}
+use Rattle.scoring.proofs.Playing.{PlayingOn, on-start, on-refused, on-more, playing-cut, playing-end}
 use borrow.Author.Needs.{needs}
 use Rattle.scoring.proofs.plays.check_behind.Statement.{statement}
 use Rattle.scoring.proofs.plays.check_behind.Tie as tie
@@ -39,8 +36,11 @@ returns c =
 enum-known-play : tie.Need-enum-known-play Inv-loop μ-loop
 enum-known-play c = search needs
 
-passes-as-many-requires : tie.Need-passes-as-many-requires Inv-loop μ-loop
-passes-as-many-requires c κs = search needs
+sub-needs-marks : tie.Need-sub-needs-marks Inv-loop μ-loop
+sub-needs-marks c = let h = c .before .before .before .before .loop-test .taken in omega (arith, h)
+
+needs-marks-requires : tie.Need-needs-marks-requires Inv-loop μ-loop
+needs-marks-requires c κs = search needs
 
 check-any-requires : tie.Need-check-any-requires Inv-loop μ-loop
 check-any-requires c κs = let top = c .before .before .before .before .before .before .before in let k = top .loop .inv (top .before .before .pre) in record { i = _; is = k .is }
@@ -48,8 +48,8 @@ check-any-requires c κs = let top = c .before .before .before .before .before .
 returns-2 : tie.Need-returns-2 Inv-loop μ-loop
 returns-2 c = let top = c .before .before .before .before .before .before .before .before in let k = top .loop .inv (top .before .before .pre) in c .check-any .ensures _ (k .is)
 
-score-on-requires : tie.Need-score-on-requires Inv-loop μ-loop
-score-on-requires c κs = search needs
+score-behind-requires : tie.Need-score-behind-requires Inv-loop μ-loop
+score-behind-requires c κs = c .before .before .before .before .before .before .before .before .before .pre
 
 enum-known-number-2 : tie.Need-enum-known-number-2 Inv-loop μ-loop
 enum-known-number-2 c = search needs
@@ -57,14 +57,12 @@ enum-known-number-2 c = search needs
 returns-3 : tie.Need-returns-3 Inv-loop μ-loop
 returns-3 c =
     let scored = c .before .before .before in
-    let passes = scored .before .before in
     let played = c .before .before .before .before .before .before .before .before .before in
     let top = played .before .before in
     let start = top .before .before in
     let q = c .before .before .before .before .before .before .before .play in
     let k = top .loop .inv (start .pre) in
-    let as-many = sym (passes .passes-as-many .ensures) ∙ not-false _ (scored .before .if1 .left) in
-    let r = so (c .before .number2 .given .1) (scored .score-on .ensures) ∙ same-passed (now (start .args .s)) (start .args .passed) (start .args .map) (start .args .a) (start .pre) (q .given .0 .0) as-many in
+    let r = so (c .before .number2 .given .1) (scored .score-behind .ensures (start .pre)) in
     sym (ap (checkedOf _) (on-refused k (played .before .loop-test .taken) _ (so (q .given .1) (played .play-at .ensures)) _ r))
 
 enum-known-score : tie.Need-enum-known-score Inv-loop μ-loop
@@ -87,14 +85,11 @@ loop-less c = let h = c .before .before .before .before .before .before .before 
 loop-again : tie.Need-loop-again Inv-loop μ-loop
 loop-again c =
     let scored = c .before .before .before .before in
-    let passes = scored .before .before in
     let played = c .before .before .before .before .before .before .before .before .before .before in
     let top = played .before .before in
-    let start = top .before .before in
     let q = c .before .before .before .before .before .before .before .before .play in
     λ k.
-    let as-many = sym (passes .passes-as-many .ensures) ∙ not-false _ (scored .before .if1 .left) in
-    let r = so (c .before .before .score .given .1) (scored .score-on .ensures) ∙ same-passed (now (start .args .s)) (start .args .passed) (start .args .map) (start .args .a) k (q .given .0 .0) as-many in
+    let r = so (c .before .before .score .given .1) (scored .score-behind .ensures k) in
     on-more (top .loop .inv k) (played .before .loop-test .taken) _ (so (q .given .1) (played .play-at .ensures)) _ r _ (c .after .ensures)
 
 returns-4 : tie.Need-returns-4 Inv-loop μ-loop
@@ -111,10 +106,11 @@ check-behind-spec =
     enum-known-number
     returns
     enum-known-play
-    passes-as-many-requires
+    sub-needs-marks
+    needs-marks-requires
     check-any-requires
     returns-2
-    score-on-requires
+    score-behind-requires
     enum-known-number-2
     returns-3
     enum-known-score

@@ -17,7 +17,6 @@ use Rattle.map_reader.specs.Map.{MapIs}
 use Rattle.map_reader.specs.declared.map.Map.{Map}
 use Rattle.scoring.specs.Scores.{Outcome, values, Scores, scoresOf}
 use Rattle.scoring.specs.View.{PlaysOf, good as good·file, refuses}
-use Rattle.scoring.specs.declared.plays.Wanted.{Wanted}
 use Rattle.scoring.specs.declared.plays.Plays.the-variants as plays
 use Rattle.scoring.proofs.Answers.{NoNumber, no-number, values-within}
 use Rattle.entries.specs.Entry.{entryOf, inLimits, placeWords}
@@ -56,15 +55,15 @@ record FileGood (s : List ℕ) (m : Map) : Type 0 where
   map : MapIs s everyObject m
   same : scores .map ≡ map .file .map
 
-file-good : {s : List ℕ} {i : ℕ} {m : Map} {a : ScoreAttributes} {w : Wanted} → PlaysOf s everyObject i (plays.Good m a w) → FileGood s m
-file-good (good·file k x e same attributes wanted) = record { scores = x; is = e; map = k; same = same }
+file-good : {s : List ℕ} {m : Map} {a : ScoreAttributes} → PlaysOf s (plays.Good m a) → FileGood s m
+file-good (good·file k x e same attributes) = record { scores = x; is = e; map = k; same = same }
 
 module _ (s : List ℕ) (b : List ℕ) (ts : List Float) where
   -- a file's refusal stands
-  pub file-refused : {i n at : ℕ} → PlaysOf s everyObject i (plays.Refused n at) → (written.Refused n at, b, ts) ≡ built (scoresOf (fileOf s)) b ts
+  pub file-refused : {n at : ℕ} → PlaysOf s (plays.Refused n at) → (written.Refused n at, b, ts) ≡ built (scoresOf (fileOf s)) b ts
   file-refused (refuses e) = sym (ap (λ (x : Outcome Scores). built x b ts) e)
 
-  module _ {i : ℕ} {m : Map} {a : ScoreAttributes} {w : Wanted} (e : PlaysOf s everyObject i (plays.Good m a w)) where
+  module _ {m : Map} {a : ScoreAttributes} (e : PlaysOf s (plays.Good m a)) where
     abbrev k : FileGood s m
     k = file-good e
 

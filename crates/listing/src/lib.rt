@@ -64,11 +64,11 @@ fn put_file(s: &[u8], space: &mut [u8]) -> usize
     ensures { λ r. ⌜ r ≡ behind (now (space .entry)) 0 (fileText (now (s .entry))) ⌝ }
     ensures { λ _. ⌜ now (space .exit) ≡ putAt (now (space .entry)) 0 (fileText (now (s .entry))) ⌝ }
 {
-    match check_plays(s, u64::MAX, 0) {
+    match check_plays(s) {
         Plays::Refused { number, offset } => {
             put_refused_line(space, 0, number as u64, offset as u64)
         }
-        Plays::Good(map, a, _) => {
+        Plays::Good(map, a) => {
             let to = put_map_line(space, 0, a);
             put_plays(s, map, space, to)
         }

@@ -16,17 +16,14 @@ use Rattle.map_reader.specs.declared.map.MapRead.the-variants as map·read
 use Rattle.play_reader.proofs.Playing.{map-same}
 use Rattle.map_reader.proofs.Passed.{attributes-passed}
 use Rattle.play_score.specs.PlayRules.{givenAnswer, givenScore}
-use Rattle.scoring.specs.Scores.{Outcome, refusal, values, then, Scores, playScores, scoresOf, mapScoreOf, givenPlayOf, playAt, listedPlayOf}
-use Rattle.scoring.specs.View.{wantedOf, checkedOf, PlaysOf, good, refuses}
+use Rattle.scoring.specs.Scores.{Outcome, refusal, values, then, Scores, playScores, scoresOf, passedScoreOf, mapScoreOf, givenPlayOf, playAt, listedPlayOf}
+use Rattle.scoring.specs.View.{wantedOf, checkedOf, PlaysOf, good, refuses, listedBy}
 use Rattle.play_score.specs.declared.PlayScore.{PlayScore}
 use Rattle.scoring.specs.declared.plays.Wanted.{Wanted}
-use Rattle.scoring.specs.declared.plays.Wanted.the-variants as wanted
 use Rattle.scoring.specs.declared.plays.Checked.the-variants as checked
 use Rattle.scoring.specs.declared.plays.Plays.the-variants as answer
 use Rattle.scoring.specs.declared.score.MapScore.the-variants as map·score
-use Rattle.play_score.specs.declared.GivenPlay.{GivenPlay}
 use Rattle.play_score.specs.declared.GivenPlay.the-variants as given
-use Rattle.scoring.specs.declared.score.ListedPlay.the-variants as listed
 use Rattle.scoring.proofs.Lists.{scores-none}
 use Rattle.rules.proofs.Laws.{never}
 
@@ -59,73 +56,84 @@ pub values-within : (s : List ℕ) (sc : Scores) → scoresOf (fileOf s) ≡ val
 values-within s sc e = let k = no-number s sc e in subst MapWithin (sym (k .map)) (accepted-within s (k .file) (k .read))
 
 -- ---- the wanted play
-wanted-is : (ss : List PlayScore) (j : ℕ) (x : PlayScore) → wanted.Is x ≡ wantedOf j ss → listed.Score x ≡ playAt j ss
+wanted-listed : (ss : List PlayScore) (j : ℕ) → listedBy (wantedOf j ss) ≡ playAt j ss
 unfolding wantedOf
-wanted-is [] j x e = never (cc)
-wanted-is (s ∷ ss) zero x e = let q : x ≡ s = cc in ap listed.Score q
-wanted-is (s ∷ ss) (suc j) x e = wanted-is ss j x e
+wanted-listed [] j = refl
+wanted-listed (s ∷ ss) zero = refl
+wanted-listed (s ∷ ss) (suc j) = wanted-listed ss j
 
-wanted-not : (ss : List PlayScore) (j n : ℕ) → wanted.Ahead n ≡ wantedOf j ss → listed.NoPlay ≡ playAt j ss
-unfolding wantedOf
-wanted-not [] j n e = refl
-wanted-not (s ∷ ss) zero n e = never (cc)
-wanted-not (s ∷ ss) (suc j) n e = wanted-not ss j n e
-
--- ---- the answers of the calls
-pub plays-refused : {s : List ℕ} {p i n at : ℕ} → PlaysOf s p i (answer.Refused n at) → scoresOf (fileOf s) ≡ refusal n at
-plays-refused (refuses e) = e
-
-pub map-refused : (s : List ℕ) (p i n at : ℕ) → PlaysOf s p i (answer.Refused n at) → map·score.Refused n at ≡ mapScoreOf (scoresOf (fileOf s))
-map-refused s p i n at k = sym (ap mapScoreOf (plays-refused k))
-
-pub play-refused : (s : List ℕ) (p i n at : ℕ) → PlaysOf s p i (answer.Refused n at) → (q : Play) → given.Refused n at ≡ givenPlayOf q (scoresOf (fileOf s))
-play-refused s p i n at k q = sym (ap (givenPlayOf q) (plays-refused k))
-
-pub listed-refused : (s : List ℕ) (p i n at : ℕ) → PlaysOf s p i (answer.Refused n at) → listed.Refused n at ≡ listedPlayOf i (scoresOf (fileOf s))
-listed-refused s p i n at k = sym (ap (listedPlayOf i) (plays-refused k))
-
--- 2 ^ 64 - 1 passed objects are all
-pub map-scored : (s : List ℕ) (i : ℕ) (m : Map) (a : ScoreAttributes) (w : Wanted) → PlaysOf s 18446744073709551615 i (answer.Good m a w)
-    → map·score.Map a ≡ mapScoreOf (scoresOf (fileOf s))
-map-scored s i m a w (good k x e same attributes wanted) =
-    let few = values-within s x e .few-objects in
-    let n = length (x .map .objects) in
-    let all : min 18446744073709551615 n ≡ min n n = omega (arith, few) in
-    ap map·score.Map (attributes ∙ attributes-passed (x .map) 18446744073709551615 n all) ∙ sym (ap mapScoreOf e)
-
-pub play-scored : (s : List ℕ) (p i : ℕ) (m : Map) (a : ScoreAttributes) (w : Wanted) → PlaysOf s p i (answer.Good m a w) → (q : Play) (r : GivenPlay) → p ≡ q .«passed_objects»
-    → r ≡ givenAnswer (givenScore q a) → r ≡ givenPlayOf q (scoresOf (fileOf s))
-play-scored s p i m a w (good k x e same attributes wanted) q r passed h =
-    h ∙ ap (λ (b : ScoreAttributes). givenAnswer (givenScore q b)) (attributes ∙ ap (scoreAttributesAt (x .map)) passed) ∙ sym (ap (givenPlayOf q) e)
-
-pub listed-scored : (s : List ℕ) (p i : ℕ) (m : Map) (a : ScoreAttributes) (w : Wanted) → PlaysOf s p i (answer.Good m a w) → (y : PlayScore) → w ≡ wanted.Is y
-    → listed.Score y ≡ listedPlayOf i (scoresOf (fileOf s))
-listed-scored s p i m a w (good k x e same attributes wanted) y h = wanted-is (x .plays) i y (sym h ∙ wanted) ∙ sym (ap (listedPlayOf i) e)
-
-pub listed-none : (s : List ℕ) (p i : ℕ) (m : Map) (a : ScoreAttributes) (w : Wanted) → PlaysOf s p i (answer.Good m a w) → (n : ℕ) → w ≡ wanted.Ahead n
-    → listed.NoPlay ≡ listedPlayOf i (scoresOf (fileOf s))
-listed-none s p i m a w (good k x e same attributes wanted) n h = wanted-not (x .plays) i n (sym h ∙ wanted) ∙ sym (ap (listedPlayOf i) e)
-
--- ---- what the check of a file's plays answers
-pub start-refused : {s : List ℕ} {p i n at : ℕ} → MapReadOf s p (map·read.Refused n at) → PlaysOf s p i (answer.Refused n at)
+-- ---- what the check of a file answers
+pub start-refused : {s : List ℕ} {p n at : ℕ} → MapReadOf s p (map·read.Refused n at) → scoresOf (fileOf s) ≡ refusal n at
 start-refused {n = n} {at = at} (map-refuses {f = f} e h) =
-    refuses (ap scoresOf e ∙ ap (λ (l : List (ℕ × Play)). then (playScores (f .map) l) (λ ss. refusal n at)) h ∙ ap (λ (x : Outcome (List PlayScore)). then x (λ ss. refusal n at)) (scores-none (f .map)))
+    ap scoresOf e ∙ ap (λ (l : List (ℕ × Play)). then (playScores (f .map) l) (λ ss. refusal n at)) h ∙ ap (λ (x : Outcome (List PlayScore)). then x (λ ss. refusal n at)) (scores-none (f .map))
 
-pub check-refused : {s : List ℕ} {p i n at : ℕ} → checked.Refused n at ≡ checkedOf i (scoresOf (fileOf s)) → PlaysOf s p i (answer.Refused n at)
-check-refused {s = s} {p = p} {i = i} {n = n} {at = at} e = refuses (go (scoresOf (fileOf s)) e)
+pub check-refused : (s : List ℕ) (i : ℕ) {n at : ℕ} → checked.Refused n at ≡ checkedOf i (scoresOf (fileOf s)) → scoresOf (fileOf s) ≡ refusal n at
+check-refused s i {n = n} {at = at} e = go (scoresOf (fileOf s)) e
   where
     go : (x : Outcome Scores) → checked.Refused n at ≡ checkedOf i x → x ≡ refusal n at
     go (refusal k o) e = let a : k ≡ n = cc in let b : o ≡ at = cc in rw (a, b)
     go (values x) e = never (cc)
 
-pub check-good : {s : List ℕ} {p i : ℕ} {m : Map} (k : MapIs s p m) (a : ScoreAttributes) (w : Wanted) → a ≡ scoreAttributesAt (k .file .map) p
-    → checked.Good w ≡ checkedOf i (scoresOf (fileOf s)) → PlaysOf s p i (answer.Good m a w)
-check-good {s = s} {p = p} {i = i} {m = m} k a w q e = go (scoresOf (fileOf s)) refl e
+-- a file whose plays are all good: its map, and the play at the index i
+pub record AllGood (s : List ℕ) (p i : ℕ) (m : Map) (w : Wanted) : Type 0 where
+  pub map : MapIs s p m
+  pub scores : Scores
+  pub is : scoresOf (fileOf s) ≡ values scores
+  pub same : scores .map ≡ map .file .map
+  pub wanted : w ≡ wantedOf i (scores .plays)
+
+pub check-good : {s : List ℕ} {p i : ℕ} {m : Map} {w : Wanted} → MapIs s p m → checked.Good w ≡ checkedOf i (scoresOf (fileOf s)) → AllGood s p i m w
+check-good {s = s} {p = p} {i = i} {m = m} {w = w} k e = go (scoresOf (fileOf s)) refl e
   where
-    go : (x : Outcome Scores) → scoresOf (fileOf s) ≡ x → checked.Good w ≡ checkedOf i x → PlaysOf s p i (answer.Good m a w)
+    go : (x : Outcome Scores) → scoresOf (fileOf s) ≡ x → checked.Good w ≡ checkedOf i x → AllGood s p i m w
     go (refusal n at) h e = never (cc)
-    go (values x) h e =
-        let v = no-number s x h in
-        let same : x .map ≡ k .file .map = v .map ∙ map-same k (v .file) (v .read) in
-        let is : w ≡ wantedOf i (x .plays) = cc in
-        good k x h same (q ∙ ap (λ (n : MapData). scoreAttributesAt n p) (sym same)) is
+    go (values x) h e = let v = no-number s x h in record { map = k; scores = x; is = h; same = v .map ∙ map-same k (v .file) (v .read); wanted = cc }
+
+module _ {s : List ℕ} {p i : ℕ} {m : Map} {w : Wanted} (k : AllGood s p i m w) where
+  of-scores : (a : ScoreAttributes) → a ≡ scoreAttributesAt (k .map .file .map) p → a ≡ scoreAttributesAt (k .scores .map) p
+  of-scores a e = e ∙ ap (λ (n : MapData). scoreAttributesAt n p) (sym (k .same))
+
+  pub passed-good : (a : ScoreAttributes) → a ≡ scoreAttributesAt (k .map .file .map) p → map·score.Map a ≡ passedScoreOf p (scoresOf (fileOf s))
+  passed-good a e = ap map·score.Map (of-scores a e) ∙ sym (ap (passedScoreOf p) (k .is))
+
+  pub listed-good : listedBy w ≡ listedPlayOf i (scoresOf (fileOf s))
+  listed-good = ap listedBy (k .wanted) ∙ wanted-listed (k .scores .plays) i ∙ sym (ap (listedPlayOf i) (k .is))
+
+pub plays-good : {s : List ℕ} {m : Map} {w : Wanted} → AllGood s 18446744073709551615 0 m w → (a : ScoreAttributes)
+    → ((k : MapIs s 18446744073709551615 m) → a ≡ scoreAttributesAt (k .file .map) 18446744073709551615) → PlaysOf s (answer.Good m a)
+plays-good k a e = good (k .map) (k .scores) (k .is) (k .same) (of-scores k a (e (k .map)))
+
+-- ---- the answers of the calls
+pub plays-refused : {s : List ℕ} {n at : ℕ} → PlaysOf s (answer.Refused n at) → scoresOf (fileOf s) ≡ refusal n at
+plays-refused (refuses e) = e
+
+-- 2 ^ 64 - 1 passed objects are all
+pub all-passed : (s : List ℕ) → passedScoreOf 18446744073709551615 (scoresOf (fileOf s)) ≡ mapScoreOf (scoresOf (fileOf s))
+all-passed s = go (scoresOf (fileOf s)) refl
+  where
+    go : (x : Outcome Scores) → scoresOf (fileOf s) ≡ x → passedScoreOf 18446744073709551615 x ≡ mapScoreOf x
+    go (refusal n at) e = refl
+    go (values x) e =
+        let few = values-within s x e .few-objects in
+        let n = length (x .map .objects) in
+        let all : min 18446744073709551615 n ≡ min n n = omega (arith, few) in
+        ap map·score.Map (attributes-passed (x .map) 18446744073709551615 n all)
+
+pub plays-map : {s : List ℕ} (m : Map) (a : ScoreAttributes) → PlaysOf s (answer.Good m a) → map·score.Map a ≡ mapScoreOf (scoresOf (fileOf s))
+plays-map {s = s} m a (good k x e same attributes) = ap map·score.Map attributes ∙ sym (ap (passedScoreOf 18446744073709551615) e) ∙ all-passed s
+
+-- a play on the attributes of the objects that it passed
+pub given-refused : (s : List ℕ) (q : Play) {n at : ℕ} → map·score.Refused n at ≡ passedScoreOf (q .«passed_objects») (scoresOf (fileOf s)) → given.Refused n at ≡ givenPlayOf q (scoresOf (fileOf s))
+given-refused s q {n = n} {at = at} e = go (scoresOf (fileOf s)) e
+  where
+    go : (x : Outcome Scores) → map·score.Refused n at ≡ passedScoreOf (q .«passed_objects») x → given.Refused n at ≡ givenPlayOf q x
+    go (refusal k o) e = let a : n ≡ k = cc in let b : at ≡ o = cc in rw (a, b)
+    go (values x) e = never (cc)
+
+pub given-scored : (s : List ℕ) (q : Play) {a : ScoreAttributes} → map·score.Map a ≡ passedScoreOf (q .«passed_objects») (scoresOf (fileOf s))
+    → givenAnswer (givenScore q a) ≡ givenPlayOf q (scoresOf (fileOf s))
+given-scored s q {a = a} e = go (scoresOf (fileOf s)) e
+  where
+    go : (x : Outcome Scores) → map·score.Map a ≡ passedScoreOf (q .«passed_objects») x → givenAnswer (givenScore q a) ≡ givenPlayOf q x
+    go (refusal k o) e = never (cc)
+    go (values x) e = let is : a ≡ scoreAttributesAt (x .map) (q .«passed_objects») = cc in ap (λ (b : ScoreAttributes). givenAnswer (givenScore q b)) is

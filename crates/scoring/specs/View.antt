@@ -18,6 +18,8 @@ use Rattle.scoring.specs.declared.plays.Wanted.{Wanted}
 use Rattle.scoring.specs.declared.plays.Wanted.the-variants as wanted
 use Rattle.scoring.specs.declared.plays.Checked.{Checked}
 use Rattle.scoring.specs.declared.plays.Checked.the-variants as checked
+use Rattle.scoring.specs.declared.score.ListedPlay.{ListedPlay}
+use Rattle.scoring.specs.declared.score.ListedPlay.the-variants as listed
 use Rattle.scoring.specs.declared.plays.Plays.{Plays}
 use Rattle.scoring.specs.declared.plays.Plays.the-variants as plays
 
@@ -62,8 +64,13 @@ checkedOf i (values x) = checked.Good (wantedOf i (x .plays))
 abbrev pub CheckedFrom : List ℕ → Map → ℕ → Wanted → Checked → Type 0
 CheckedFrom s m at w r = (i : ℕ) → Playing s m at w i → r ≡ checkedOf i (scoresOf (fileOf s))
 
--- the map too, with the attributes of its first p objects
-pub data PlaysOf (s : List ℕ) (p i : ℕ) : Plays → Type 0 where
-  good : {m : Map} {a : ScoreAttributes} {w : Wanted} (k : MapIs s p m) (x : Scores) → scoresOf (fileOf s) ≡ values x → x .map ≡ k .file .map
-      → a ≡ scoreAttributesAt (x .map) p → w ≡ wantedOf i (x .plays) → PlaysOf s p i (plays.Good m a w)
-  refuses : {n at : ℕ} → scoresOf (fileOf s) ≡ refusal n at → PlaysOf s p i (plays.Refused n at)
+-- the map too, with the attributes of all objects
+pub data PlaysOf (s : List ℕ) : Plays → Type 0 where
+  good : {m : Map} {a : ScoreAttributes} (k : MapIs s 18446744073709551615 m) (x : Scores) → scoresOf (fileOf s) ≡ values x → x .map ≡ k .file .map
+      → a ≡ scoreAttributesAt (x .map) 18446744073709551615 → PlaysOf s (plays.Good m a)
+  refuses : {n at : ℕ} → scoresOf (fileOf s) ≡ refusal n at → PlaysOf s (plays.Refused n at)
+
+-- the wanted play of a good file
+abbrev pub listedBy : Wanted → ListedPlay
+listedBy (wanted.Ahead n) = listed.NoPlay
+listedBy (wanted.Is x) = listed.Score x

@@ -25,9 +25,9 @@ pub enum Wanted {
     Is(PlayScore),
 }
 
-// Of a file whose plays are all good: its map, the attributes of the first objects, and the wanted play.
+// Of a file whose plays are all good: its map, and the attributes of all objects.
 pub enum Plays {
-    Good(Map, ScoreAttributes, Wanted),
+    Good(Map, ScoreAttributes),
     Refused { number: u8, offset: usize },
 }
 
@@ -91,7 +91,7 @@ fn check_any(s: &[u8], map: Map, from: usize, former: Wanted) -> Checked
 }
 
 // The plays behind a map, from the attributes of its passed objects as long as they passed as many.
-fn check_behind(s: &[u8], map: Map, a: ScoreAttributes, passed: u64, index: u64) -> Checked
+pub fn check_behind(s: &[u8], map: Map, a: ScoreAttributes, passed: u64, index: u64) -> Checked
     requires { ⌜ Attributed (now s) passed map a ⌝ }
     ensures { λ r. ⌜ r ≡ checkedOf index (scoresOf (fileOf (now (s .entry)))) ⌝ }
 {
@@ -122,16 +122,16 @@ fn check_behind(s: &[u8], map: Map, a: ScoreAttributes, passed: u64, index: u64)
 }
 
 // Reads a file to its end, each play checked in its place.
-pub fn check_plays(s: &[u8], passed: u64, index: u64) -> Plays
-    ensures { λ r. ⌜ PlaysOf (now (s .entry)) passed index r ⌝ }
+pub fn check_plays(s: &[u8]) -> Plays
+    ensures { λ r. ⌜ PlaysOf (now (s .entry)) r ⌝ }
 {
-    match read_passed(s, passed) {
+    match read_passed(s, u64::MAX) {
         MapRead::Refused { number, offset } => Plays::Refused { number, offset },
         MapRead::Map(map) => {
             let a = attributes_of(s, map);
-            match check_behind(s, map, a, passed, index) {
+            match check_behind(s, map, a, u64::MAX, 0) {
                 Checked::Refused { number, offset } => Plays::Refused { number, offset },
-                Checked::Good(wanted) => Plays::Good(map, a, wanted),
+                Checked::Good(_) => Plays::Good(map, a),
             }
         }
     }

@@ -1,7 +1,10 @@
 // The score of a map file, of a play on it, and of a play in it.
-use crate::plays::Plays;
+use crate::plays::Checked;
 use crate::plays::Wanted;
-use crate::plays::check_plays;
+use crate::plays::check_behind;
+use map_reader::attributes::attributes_of;
+use map_reader::map::MapRead;
+use map_reader::map::read_passed;
 use play_score::GivenPlay;
 use play_score::PlayScore;
 use play_score::score_given;
@@ -9,7 +12,8 @@ use play_state::Play;
 use simulator::attributes::ScoreAttributes;
 ghost use mathlib.Core.Path.{_≡_};
 ghost use Rattle.map_file.specs.File.{fileOf};
-ghost use Rattle.scoring.specs.Scores.{scoresOf, mapScoreOf, givenPlayOf, listedPlayOf};
+ghost use Rattle.scoring.specs.Scores.{scoresOf, passedScoreOf, mapScoreOf, givenPlayOf, listedPlayOf};
+ghost use Rattle.scoring.specs.View.{listedBy};
 
 pub enum MapScore {
     Map(ScoreAttributes),
@@ -22,23 +26,46 @@ pub enum ListedPlay {
     Refused { number: u8, offset: usize },
 }
 
+// The attributes of the first objects of a map file.
+pub fn score_passed(s: &[u8], passed: u64) -> MapScore
+    ensures { λ r. ⌜ r ≡ passedScoreOf passed (scoresOf (fileOf (now (s .entry)))) ⌝ }
+{
+    match read_passed(s, passed) {
+        MapRead::Refused { number, offset } => MapScore::Refused { number, offset },
+        MapRead::Map(map) => {
+            let a = attributes_of(s, map);
+            match check_behind(s, map, a, passed, 0) {
+                Checked::Refused { number, offset } => MapScore::Refused { number, offset },
+                Checked::Good(_) => MapScore::Map(a),
+            }
+        }
+    }
+}
+
 // The attributes of all objects of a map file.
 pub fn score_map(s: &[u8]) -> MapScore
     ensures { λ r. ⌜ r ≡ mapScoreOf (scoresOf (fileOf (now (s .entry)))) ⌝ }
 {
-    match check_plays(s, u64::MAX, 0) {
-        Plays::Refused { number, offset } => MapScore::Refused { number, offset },
-        Plays::Good(_, a, _) => MapScore::Map(a),
-    }
+    score_passed(s, u64::MAX)
 }
 
 // The score of a play on a map file.
 pub fn score_play(s: &[u8], play: Play) -> GivenPlay
     ensures { λ r. ⌜ r ≡ givenPlayOf play (scoresOf (fileOf (now (s .entry)))) ⌝ }
 {
-    match check_plays(s, play.passed_objects as u64, 0) {
-        Plays::Refused { number, offset } => GivenPlay::Refused { number, offset },
-        Plays::Good(_, a, _) => score_given(play, a),
+    match score_passed(s, play.passed_objects as u64) {
+        MapScore::Refused { number, offset } => GivenPlay::Refused { number, offset },
+        MapScore::Map(a) => score_given(play, a),
+    }
+}
+
+// A play that was asked for, where the file is good.
+fn listed(wanted: Wanted) -> ListedPlay
+    ensures { λ r. ⌜ r ≡ listedBy wanted ⌝ }
+{
+    match wanted {
+        Wanted::Ahead(_) => ListedPlay::NoPlay,
+        Wanted::Is(score) => ListedPlay::Score(score),
     }
 }
 
@@ -46,11 +73,14 @@ pub fn score_play(s: &[u8], play: Play) -> GivenPlay
 pub fn score_play_at(s: &[u8], index: u64) -> ListedPlay
     ensures { λ r. ⌜ r ≡ listedPlayOf index (scoresOf (fileOf (now (s .entry)))) ⌝ }
 {
-    match check_plays(s, u64::MAX, index) {
-        Plays::Refused { number, offset } => ListedPlay::Refused { number, offset },
-        Plays::Good(_, _, wanted) => match wanted {
-            Wanted::Ahead(_) => ListedPlay::NoPlay,
-            Wanted::Is(score) => ListedPlay::Score(score),
-        },
+    match read_passed(s, u64::MAX) {
+        MapRead::Refused { number, offset } => ListedPlay::Refused { number, offset },
+        MapRead::Map(map) => {
+            let a = attributes_of(s, map);
+            match check_behind(s, map, a, u64::MAX, index) {
+                Checked::Refused { number, offset } => ListedPlay::Refused { number, offset },
+                Checked::Good(wanted) => listed(wanted),
+            }
+        }
     }
 }

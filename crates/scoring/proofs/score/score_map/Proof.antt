@@ -1,33 +1,16 @@
 -- All objects of a map are passed by the largest number.
-use mathlib.Core.Path.{subst}
+use mathlib.Core.Path.{_∙_}
 use denote.Ref.{now}
-use Rattle.scoring.specs.View.{PlaysOf}
-use Rattle.scoring.proofs.Answers.{map-refused, map-scored}
+use Rattle.scoring.proofs.Answers.{all-passed}
 use borrow.Author.Needs.{needs}
 use Rattle.scoring.proofs.score.score_map.Statement.{statement}
 use Rattle.scoring.proofs.score.score_map.Tie as tie
 
-check-plays-requires : tie.Need-check-plays-requires
-check-plays-requires c κs = search needs
-
-enum-known-number : tie.Need-enum-known-number
-enum-known-number c = search needs
-
-enum-known-a : tie.Need-enum-known-a
-enum-known-a c = search needs
+score-passed-requires : tie.Need-score-passed-requires
+score-passed-requires c κs = search needs
 
 returns : tie.Need-returns
-returns c =
-    let at1 = c .before .before .before in
-    let at2 = at1 .before .before in
-    map-refused (now (at2 .args .s)) 18446744073709551615 0 _ _ (subst (PlaysOf (now (at2 .args .s)) 18446744073709551615 0) (c .before .number .given .1) (at1 .check-plays .ensures))
-
-returns-2 : tie.Need-returns-2
-returns-2 c =
-    let at1 = c .before .before .before in
-    let at2 = at1 .before .before in
-    map-scored (now (at2 .args .s)) 0 _ _ _ (subst (PlaysOf (now (at2 .args .s)) 18446744073709551615 0) (c .before .a .given .1) (at1 .check-plays .ensures))
+returns c = c .score-passed .ensures ∙ all-passed (now (c .before .before .args .s))
 
 pub score-map-spec : {M : Type 1} → statement M
-score-map-spec =
-    tie.close (tie.spec check-plays-requires enum-known-number enum-known-a returns returns-2)
+score-map-spec = tie.close (tie.spec score-passed-requires returns)

@@ -1,56 +1,76 @@
 -- The loop over the plays gives the one at the index.
-use mathlib.Core.Path.{subst}
+use mathlib.Core.Path.{_∙_, sym, ap, subst}
 use denote.Ref.{now}
-use Rattle.scoring.specs.View.{PlaysOf}
-use Rattle.scoring.proofs.Answers.{listed-refused, listed-none, listed-scored}
+use Rattle.rules.proofs.Laws.{so}
+use Rattle.map_reader.specs.Map.{MapReadOf}
+use Rattle.map_reader.proofs.Attributed.{complete, attributes-are}
+use Rattle.play_reader.proofs.Playing.{map-out}
+use Rattle.scoring.specs.Scores.{listedPlayOf}
+use Rattle.scoring.proofs.Answers.{start-refused, check-refused, check-good, listed-good}
 use borrow.Author.Needs.{needs}
 use Rattle.scoring.proofs.score.score_play_at.Statement.{statement}
 use Rattle.scoring.proofs.score.score_play_at.Tie as tie
 
-check-plays-requires : tie.Need-check-plays-requires
-check-plays-requires c κs = search needs
+read-passed-requires : tie.Need-read-passed-requires
+read-passed-requires c κs = search needs
 
 enum-known-number : tie.Need-enum-known-number
 enum-known-number c = search needs
 
+enum-known-map : tie.Need-enum-known-map
+enum-known-map c = search needs
+
+attributes-of-requires : tie.Need-attributes-of-requires
+attributes-of-requires c κs =
+    let start = c .before .before .before .before .before in
+    complete (map-out (subst (MapReadOf (now (start .args .s)) 18446744073709551615) (c .before .map .given .1) (c .before .before .before .read-passed .ensures)))
+
+check-behind-requires : tie.Need-check-behind-requires
+check-behind-requires c κs =
+    let start = c .before .before .before .before .before .before in
+    let k = map-out (subst (MapReadOf (now (start .args .s)) 18446744073709551615) (c .before .before .map .given .1) (c .before .before .before .before .read-passed .ensures)) in
+    record { map = k; attributes = c .attributes-of .ensures ∙ attributes-are k }
+
+enum-known-number-2 : tie.Need-enum-known-number-2
+enum-known-number-2 c = search needs
+
 enum-known-wanted : tie.Need-enum-known-wanted
 enum-known-wanted c = search needs
 
-enum-told : tie.Need-enum-told
-enum-told c = search needs
-
-enum-known-wanted-2 : tie.Need-enum-known-wanted-2
-enum-known-wanted-2 c = search needs
+listed-requires : tie.Need-listed-requires
+listed-requires c κs = search needs
 
 returns : tie.Need-returns
 returns c =
-    let at1 = c .before .before .before in
-    let at2 = at1 .before .before in
-    listed-refused (now (at2 .args .s)) 18446744073709551615 (at2 .args .index) _ _ (subst (PlaysOf (now (at2 .args .s)) 18446744073709551615 (at2 .args .index)) (c .before .number .given .1) (at1 .check-plays .ensures))
+    let start = c .before .before .before .before .before in
+    sym (ap (listedPlayOf (start .args .index)) (start-refused (subst (MapReadOf (now (start .args .s)) 18446744073709551615) (c .before .number .given .1) (c .before .before .before .read-passed .ensures))))
 
 returns-2 : tie.Need-returns-2
 returns-2 c =
-    let at1 = c .before .before .before in
-    let at2 = at1 .before .before in
-    let at3 = at2 .before .before in
-    listed-none (now (at3 .args .s)) 18446744073709551615 (at3 .args .index) _ _ _ (subst (PlaysOf (now (at3 .args .s)) 18446744073709551615 (at3 .args .index)) (at1 .wanted .given .1) (at2 .check-plays .ensures)) _ (c .enum-told .given .1)
+    let start = c .before .before .before .before .before .before .before .before .before .before in
+    sym (ap (listedPlayOf (start .args .index)) (check-refused (now (start .args .s)) (start .args .index) (so (c .before .number2 .given .1) (c .before .before .before .check-behind .ensures))))
 
 returns-3 : tie.Need-returns-3
 returns-3 c =
-    let at1 = c .before .before .before .before in
-    let at2 = at1 .before .before in
-    let at3 = at2 .before .before in
-    listed-scored (now (at3 .args .s)) 18446744073709551615 (at3 .args .index) _ _ _ (subst (PlaysOf (now (at3 .args .s)) 18446744073709551615 (at3 .args .index)) (at1 .wanted .given .1) (at2 .check-plays .ensures)) _ (c .before .wanted2 .given .1)
+    let checked = c .before .before .before .before in
+    let read = checked .before .before .before .before .before in
+    let start = read .before .before in
+    let k = map-out (subst (MapReadOf (now (start .args .s)) 18446744073709551615) (checked .before .before .before .map .given .1) (read .read-passed .ensures)) in
+    let all = check-good k (so (c .before .before .wanted .given .1) (checked .check-behind .ensures)) in
+    c .listed .ensures ∙ listed-good all
 
 pub score-play-at-spec : {M : Type 1} → statement M
 score-play-at-spec =
     tie.close
     (tie.spec
-    check-plays-requires
+    read-passed-requires
     enum-known-number
+    enum-known-map
+    attributes-of-requires
+    check-behind-requires
+    enum-known-number-2
     enum-known-wanted
-    enum-told
-    enum-known-wanted-2
+    listed-requires
     returns
     returns-2
     returns-3)

@@ -1,4 +1,4 @@
 pub mod Walk
 pub mod Held
 pub mod Front
-pub mod Starts
+pub mod Loop

@@ -5,8 +5,7 @@ use mathlib.Core.List.{List, [], _∷_, _++_, map}
 use lib.ListN.{replicate}
 use lib.Ieee.{Float, binary32, binary64, ofBits, lt, le, eq}
 use Rattle.rules.specs.Refusals.{Checked, refused, good, _>>_, refuse_when_}
-use Rattle.records.specs.Objects.{Object, circle, slider, tick, repeat}
-use Rattle.map_file.specs.File.{Map}
+use Rattle.records.specs.Objects.{circle, slider, tick, repeat}
 use Rattle.play_state.specs.Play.{flagsBad}
 use Rattle.simulator.specs.Attributes.{difficultyAttributesOf, scoreAttributesOf, scoreAttributesAt}
 use Rattle.simulator.specs.Hits.{hitsOf}
@@ -19,7 +18,6 @@ use Rattle.host.specs.Answer.{playAnswerRefused, givenAnswerOf}
 use Rattle.host.specs.Play.{playIn}
 use Rattle.host.specs.declared.answer.PlayAnswer.{PlayAnswer}
 use Rattle.host.specs.declared.play.HostPlay.{HostPlay}
-use Rattle.host.specs.declared.status.Status.{Status}
 use Rattle.heat.specs.Heat.{singleOf, heatOf}
 
 abbrev five : Float

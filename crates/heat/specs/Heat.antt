@@ -54,7 +54,7 @@ unfoldable pub heatOf : Outcome Scores → List HostPlay → List PlayAnswer →
 heatOf x plays outcomes =
     let s : HeatStart = startOf x (length plays) (length outcomes) in (heatStatusOf s, outcomesOf s x plays outcomes)
 
--- ---- the same play by play, as the code has it (proofs/Starts)
+-- ---- the same play by play, as the code has it (proofs/Loop)
 -- how many plays get their outcome
 abbrev pub dueOf : HeatStart → ℕ → ℕ
 dueOf (start.Ready all) plays = plays

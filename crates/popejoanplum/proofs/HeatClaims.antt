@@ -10,7 +10,7 @@ use borrow.Kind.ShrSlice.{pShrS}
 use borrow.Kind.MutSlice.{pMutS}
 use borrow.Fn.Kinds.{In, Out, PK, RK, endedOf}
 use borrow.Fn.Learn.{no-pin, no-own}
-use borrow.Fn.Read.{Read, reads, all-models, no-know, all∗}
+use borrow.Fn.Read.{Read, r-top, r-last, all-models, no-know, all∗}
 use borrow.Fn.World.{World, ArgsD, ResD, Pr}
 use borrow.Fn.World as world
 use borrow.Fn.Written as written
@@ -41,10 +41,10 @@ module _ (κs : Lfts 3) where
   ensures a g x s w = heat.clauses (w .𝓤) (w .H) (w .𝓖 .A) (w .𝓜 .mem) (w .𝓡 .run) κs a .ensures g x s
 
   abbrev pub pre-read : (a : ArgsD heat.signature κs) (g : Unit {0}) → Read (world.In heat.signature κs a) no-know (requires a g)
-  pre-read a g = all-models (requires a g) (λ w. search reads) (λ w. refl) (λ w. refl) (λ w. refl)
+  pre-read a g = all-models (requires a g) (λ w. r-top) (λ w. refl) (λ w. refl) (λ w. refl)
 
   abbrev pub post-read : (a : ArgsD heat.signature κs) (g : Unit {0}) (x : ResD heat.signature κs) (s : AtExit (endedOf 3 ps r) κs) → Read (written.Base 3 ps r (λ κs. no-pin heat.signature κs) κs a) (Owned x s) (ensures a g x s)
-  post-read a g x s = all-models (ensures a g x s) (λ w. search reads) (λ w. refl) (λ w. refl) (λ w. refl)
+  post-read a g x s = all-models (ensures a g x s) (λ w. r-last _) (λ w. refl) (λ w. refl) (λ w. refl)
 
 abbrev pub Pre : In 3 ps
 Pre = written.Pre 3 ps r (Unit {0}) requires ensures pre-read Pinned Owned post-read tt

@@ -1,7 +1,8 @@
--- `pjp_heat` takes slices of structs, which the borrow checker does not cover: the derivation by its rules is written by hand (`Derived`), the contract
--- is read as claims (`HeatClaims`), and here is what the derivation asks. Assumes nothing.
+-- Each turn puts the next play's answer, which is the single call's (`one-is`), over its outcome, and a turn runs for each play that is due. Slices of
+-- structs are not covered by the borrow checker: the derivation by its rules is written by hand (`Derived`), the contract is read as claims
+-- (`HeatClaims`), and here is what the derivation asks. Assumes nothing.
 mod Derived
-use mathlib.Core.Path.{_≡_, refl, sym, _∙_, ap}
+use mathlib.Core.Path.{_≡_, refl, _∙_, ap}
 use Prim.Native.Nat.{ℕ, _+_, _-_, _≤_, _<_}
 use mathlib.Core.List.{List}
 use native.Mathlib.Omega.{arith}
@@ -27,7 +28,7 @@ use Rattle.host.specs.declared.status.Status.{Status}
 use Rattle.host.specs.declared.play.HostPlay.{HostPlay}
 use Rattle.host.specs.declared.answer.PlayAnswer.{PlayAnswer}
 use Rattle.heat.proofs.Front.{over, over-none, over-next, over-length}
-use Rattle.heat.proofs.Starts.{within, left, one-is}
+use Rattle.heat.proofs.Loop.{within, left, one-is}
 use Rattle.heat.proofs.heat_start.Met as start
 use Rattle.heat.proofs.heat_start.Reads as start-reads
 use Rattle.heat.proofs.heat_start.Symbol as start-def

@@ -1,4 +1,4 @@
-// The engine for hosts in C and Rust: numbers, slices and #[repr(C)] structs by value. No function asks anything of its caller but valid slices
+// The engine for hosts in C and Rust: numbers and #[repr(C)] structs by value, and slices of them. No function asks anything of its caller but valid slices
 // that do not overlap.
 
 use board::edit::edit;

@@ -1,13 +1,12 @@
--- Each turn puts the next play's answer, which is the single call's (`one-is`), over its outcome, and a turn runs for each play that is due. Slices of
--- structs are not covered by the borrow checker: the derivation by its rules is written by hand (`Derived`), the contract is read as claims
--- (`HeatClaims`), and here is what the derivation asks. Assumes nothing.
+-- Each turn puts the next play's answer, which is the single call's, over its outcome, and a turn runs for each play that is due (`Loop` of the crate
+-- `heat`). Slices of structs are not covered by the borrow checker: the derivation by its rules is written by hand (`Derived`), the contract is read
+-- as claims (`HeatClaims`), and here is what the derivation asks. Assumes nothing.
 mod Derived
-use mathlib.Core.Path.{_≡_, refl, _∙_, ap}
+use mathlib.Core.Path.{_≡_, refl}
 use Prim.Native.Nat.{ℕ, _+_, _-_, _≤_, _<_}
 use mathlib.Core.List.{List}
 use native.Mathlib.Omega.{arith}
-use native.Mathlib.Nat.{le-antisymm}
-use lib.ListN.{length, take, set, getD}
+use lib.ListN.{length, set}
 use contract.Lifetimes.{Lfts, Shares}
 use contract.Running.{givenOf, tablesOf}
 use borrow.Author.Tests.{ltb-true, ltb-false}
@@ -20,15 +19,13 @@ use borrow.Fn.Run.{Over}
 use borrow.Fn.World.{World}
 use borrow.Fn.Written.{close}
 use borrow.Kind.MutSlice.{fix-len}
+use Rattle.rules.specs.Limits.{maxPlays}
 use Rattle.map_file.specs.File.{fileOf}
 use Rattle.scoring.specs.Scores.{Outcome, Scores, scoresOf}
-use Rattle.heat.specs.declared.HeatStart.{HeatStart}
-use Rattle.heat.specs.Heat.{startOf, dueOf, heatStatusOf, oneOf, singleOf, outcomesOf, heatOf}
-use Rattle.host.specs.declared.status.Status.{Status}
+use Rattle.heat.specs.Heat.{dueOf}
 use Rattle.host.specs.declared.play.HostPlay.{HostPlay}
 use Rattle.host.specs.declared.answer.PlayAnswer.{PlayAnswer}
-use Rattle.heat.proofs.Front.{over, over-none, over-next, over-length}
-use Rattle.heat.proofs.Loop.{within, left, one-is}
+use Rattle.heat.proofs.Loop.{due-fits, none-yet, same-length, one-more, all-done}
 use Rattle.heat.proofs.heat_start.Met as start
 use Rattle.heat.proofs.heat_start.Reads as start-reads
 use Rattle.heat.proofs.heat_start.Symbol as start-def
@@ -49,30 +46,26 @@ use Rattle.popejoanplum.proofs.HeatClaims.{ps, r, Pre, Post, Pinned, Ow
 
 -- what the derivation asks, in its order: two calls, the loop's entry, its turns and its end, and the last call
 asked : (κs : Lfts 3) (qs : Shares 3) (a : Dens κs ps) → GoodsP κs ps a → Pre κs a → (bs : List ℕ) → body κs qs .Φ bs (wantQ 3 ps r xs 0 κs qs a (Post κs a)) (init 3 ps r xs 0 κs qs a)
-unfolding heatOf singleOf
 asked κs qs a sound pre bs =
     let x : Outcome Scores = scoresOf (fileOf (a .0 .now)) in
     let p : List HostPlay = a .1 .0 .now in
-    let o : List PlayAnswer = a .1 .1 .0 .now in
-    let w : HeatStart = startOf x (length p) (length o) in
-    let one : HostPlay → PlayAnswer = singleOf x in
-    let fits : (dueOf w (length p) ≤ 64) × (dueOf w (length p) ≤ length p) × (dueOf w (length p) ≤ length o) = within x (length p) (length o) in (
+    let o : List PlayAnswer = a .1 .1 .0 .now in (
       (λ ks. tt),
       λ cs. (
         (λ ks. tt),
         λ cn.
-            let n : ℕ = cn .1 in
-            let is : n ≡ dueOf w (length p) = cn .5 ∙ ap (λ (t : HeatStart). dueOf t (length p)) (cs .5) in (
-              ((o, 0), refl, (omega arith, over-none one p o)),
+            let fits : (cn .1 ≤ maxPlays) × (cn .1 ≤ length p) × (cn .1 ≤ length o) = due-fits x p o (cs .1) (cs .5) (cn .1) (cn .5) in (
+              ((o, 0), refl, (omega arith, none-yet x p o)),
               λ vs inv.
                   let i : ℕ = vs .1 in
-                  let same : length (vs .0) ≡ length o = ap length (inv .1) ∙ over-length one (take i p) o in (
+                  let same : length (vs .0) ≡ length o = same-length x p o i (vs .0) (inv .1) in (
                     tt,
                     (
                       (λ t.
-                          let l : i < n = ltb-true i n t in
-                          let m : i < length p = omega (arith, l, is, fits .1) in (
-                            record { fits = omega (arith, l, is, fits .0) },
+                          let l : i < cn .1 = ltb-true i (cn .1) t in
+                          let due : i < dueOf (cs .1) (length p) = rw (cn .5) at l in
+                          let m : i < length p = omega (arith, l, fits .1) in (
+                            record { fits = omega (arith, l, fits .0) },
                             (
                               tt,
                               (
@@ -80,23 +73,20 @@ asked κs qs a sound pre bs =
                                 λ g. (
                                   (λ ks. tt),
                                   λ c. (
-                                    record { fits = omega (arith, l, is, fits .0) },
+                                    record { fits = omega (arith, l, fits .0) },
                                     (
                                       tt,
                                       (
-                                        (refl, refl, omega (arith, l, is, fits .2, same)),
+                                        (refl, refl, omega (arith, l, fits .2, same)),
                                         (
-                                          record { fits = omega (arith, l, is, fits .0) },
+                                          record { fits = omega (arith, l, fits .0) },
                                           (
-                                            n - (i + 1),
+                                            cn .1 - (i + 1),
                                             omega (arith, l),
                                             (
                                               (set (vs .0) i (c .1), i + 1),
                                               refl,
-                                              (
-                                                omega (arith, l),
-                                                ap (λ (y : PlayAnswer). set (vs .0) i y) (c .5 ∙ ap (λ (t : HeatStart). oneOf x t (getD p i no-play)) (cs .5) ∙ one-is x (length p) (length o) i (getD p i no-play) (omega (arith, l, is))) ∙ ap (λ (y : List PlayAnswer). set y i (one (getD p i no-play))) (inv .1) ∙ over-next one no-play i p o m,
-                                              ),
+                                              (omega (arith, l), one-more x p o (cs .1) (cs .5) i no-play (vs .0) (c .1) due m (inv .1) (c .5)),
                                               refl,
                                             ),
                                           ),
@@ -108,14 +98,13 @@ asked κs qs a sound pre bs =
                               ),
                             ),
                           )),
-                      (λ z.
-                          let last : i ≡ dueOf w (length p) = le-antisymm (inv .0) (ltb-false i n z) ∙ is in (
-                            (λ ks. tt),
-                            λ ct. (
-                              (refl, (refl, (fix-len (a .1 .1 .0 .ptr) (a .1 .1 .0 .name) (vs .0) o same, tt))),
-                              ap (λ (y : List PlayAnswer). (ct .1, y)) (inv .1 ∙ ap (λ (k : ℕ). over one (take k p) o) last ∙ left x p o) ∙ ap (λ (s : Status). (s, outcomesOf w x p o)) (ct .5 ∙ ap heatStatusOf (cs .5)),
-                            ),
-                          )),
+                      (λ z. (
+                        (λ ks. tt),
+                        λ ct. (
+                          (refl, (refl, (fix-len (a .1 .1 .0 .ptr) (a .1 .1 .0 .name) (vs .0) o same, tt))),
+                          all-done x p o (cs .1) (cs .5) (cn .1) i (vs .0) (ct .1) (cn .5) (inv .0) (ltb-false i (cn .1) z) (inv .1) (ct .5),
+                        ),
+                      )),
                     ),
                   ),
             ),

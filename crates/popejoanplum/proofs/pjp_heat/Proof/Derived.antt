@@ -5,7 +5,6 @@ use mathlib.Core.Path.{_≡_, refl}
 use Prim.Native.Nat.{ℕ, _≤_, _-_}
 use mathlib.Core.List.{List, [], _∷_}
 use mathlib.Core.Option.{some}
-use lib.ListN.{take}
 use lib.Ieee.{nan}
 use mir.Syntax.{w8, w64, Ty, tyInt, tyBool, tyPtr, tyRef, named, imm, mut, unsigned, add, mul, lt, offset, field, Home, valueLocal}
 use contract.Lifetimes.{Lfts, Shares}
@@ -37,14 +36,13 @@ use Rattle.map_file.specs.File.{fileOf}
 use Rattle.scoring.specs.Scores.{scoresOf}
 use Rattle.heat.proofs.HeatStart
 use Rattle.heat.proofs.HeatStart.Laws as HeatStart-laws
-use Rattle.heat.specs.Heat.{singleOf}
 use Rattle.host.specs.declared.answer.PlayAnswer as declared
 use Rattle.host.proofs.status.Status.Laws as Status-laws
 use Rattle.host.proofs.play.HostPlay
 use Rattle.host.proofs.play.HostPlay.Laws as HostPlay-laws
 use Rattle.host.proofs.answer.PlayAnswer
 use Rattle.host.proofs.answer.PlayAnswer.Laws as PlayAnswer-laws
-use Rattle.heat.proofs.Front.{over}
+use Rattle.heat.proofs.Loop.{outcomesAfter}
 use Rattle.heat.proofs.Held.{yields, made}
 use Rattle.popejoanplum.proofs.HeatClaims.{ps, r}
 use Rattle.heat.proofs.Walk.{Facts, Code, step, then, gives, gone, branch, skips, leaves, ends, blocks, loops}
@@ -137,7 +135,7 @@ module _ (κs : Lfts 3) (qs : Shares 3) where
 
   -- the outcomes are those of the first i plays over the outcomes at entry
   abbrev Inv : Mo Hd → List declared.PlayAnswer × ℕ → Type 0
-  Inv u vs = (vs .1 ≤ get 5 (Hd .locals) u) × (vs .0 ≡ over (singleOf (scoresOf (fileOf (get 1 (Hd .locals) u .now)))) (take (vs .1) (get 2 (Hd .locals) u .now)) (get 3 (Hd .locals) u .now))
+  Inv u vs = (vs .1 ≤ get 5 (Hd .locals) u) × (vs .0 ≡ outcomesAfter (scoresOf (fileOf (get 1 (Hd .locals) u .now))) (get 2 (Hd .locals) u .now) (get 3 (Hd .locals) u .now) (vs .1))
 
   abbrev μ : Mo Hd → List declared.PlayAnswer × ℕ → ℕ
   μ u vs = get 5 (Hd .locals) u - vs .1

@@ -1,5 +1,5 @@
-// The engine for hosts in C and Rust: numbers and #[repr(C)] structs by value, and slices of them. No function asks anything of its caller but valid slices
-// that do not overlap.
+// The engine for hosts in C and Rust: numbers and #[repr(C)] structs by value, and slices of them. No function asks anything of its caller but valid
+// slices that do not overlap.
 
 use board::edit::edit;
 use board::read::read;

@@ -1,0 +1,4 @@
+pub mod Walk
+pub mod Held
+pub mod Front
+pub mod Loop

@@ -10,6 +10,9 @@ use crate::{
 /// The most plays of a heat.
 pub const HEAT_PLAYS: usize = 64;
 
+/// One more than a heat has: so the library itself is shown that a list is too long, however long it is.
+const LENT: usize = HEAT_PLAYS + 1;
+
 /// The scores of up to [`HEAT_PLAYS`] plays on the map of a file: for each play what
 /// [`score_play`](crate::score_play) gives, in their order.
 ///
@@ -31,8 +34,7 @@ pub const HEAT_PLAYS: usize = 64;
 /// # Ok::<(), popejoanplum::Error>(())
 /// ```
 pub fn heat(file: &[u8], plays: &[Play]) -> Result<Vec<Result<Score, Error>>, Error> {
-    // Of plays that are too many no outcome is due.
-    let mut outcomes = vec![Ok(Score::default()); plays.len().min(HEAT_PLAYS)];
+    let mut outcomes = vec![Ok(Score::default()); plays.len().min(LENT)];
     heat_into(file, plays, &mut outcomes)?;
     Ok(outcomes)
 }
@@ -62,12 +64,11 @@ pub fn heat_into(
     plays: &[Play],
     outcomes: &mut [Result<Score, Error>],
 ) -> Result<(), Error> {
-    // One more than a heat takes: of longer lists too the library is shown that they are too long.
-    let mut given = [sys::Play::from(&Play::default()); HEAT_PLAYS + 1];
+    let mut given = [sys::Play::from(&Play::default()); LENT];
     for (given, play) in given.iter_mut().zip(plays) {
         *given = play.into();
     }
-    let mut answers = [PlayAnswer::default(); HEAT_PLAYS];
+    let mut answers = [PlayAnswer::default(); LENT];
     // SAFETY: the pointers are those of slices that live through the call and of which the one that is
     // written overlaps no other; the lengths are at most theirs.
     let status = unsafe {
@@ -75,9 +76,9 @@ pub fn heat_into(
             file.as_ptr(),
             file.len(),
             given.as_ptr(),
-            plays.len().min(given.len()),
+            plays.len().min(LENT),
             answers.as_mut_ptr(),
-            outcomes.len().min(answers.len()),
+            outcomes.len().min(LENT),
         )
     };
     Error::check(status.status, status.offset)?;

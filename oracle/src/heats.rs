@@ -20,7 +20,7 @@ use crate::{
     frame::take,
     given::{checked_play, lines},
     listing::{refusal_line, refused},
-    map::MapFile,
+    map::{MapFile, Play},
     reader::{PLAY_RECORD, Refusal, read_library},
     values::Original,
 };
@@ -79,6 +79,13 @@ impl Heat {
         (self.outcomes as usize) < self.plays.len()
     }
 
+    /// Each play beside the accepted file, or the number of its refusal.
+    pub fn checked_plays(&self) -> impl Iterator<Item = Result<Play, u8>> {
+        self.plays
+            .iter()
+            .map(|record| checked_play(&self.file, record, None))
+    }
+
     pub fn answer(&self) -> String {
         let map = match self.checked() {
             Ok(map) => map,
@@ -86,8 +93,8 @@ impl Heat {
         };
         let original = Original::new(&map);
         let mut text = format!("heat {}\n", self.plays.len());
-        for (index, record) in self.plays.iter().enumerate() {
-            text += &match checked_play(&self.file, record, None) {
+        for (index, play) in self.checked_plays().enumerate() {
+            text += &match play {
                 Ok(play) => lines(&original, index, &play, None),
                 Err(number) => refused(number),
             };

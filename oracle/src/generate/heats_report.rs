@@ -1,6 +1,9 @@
 //! What a heat contains.
 
-use crate::{given::checked_play, heats::Heat, map::MapFile, reader::PLAY_RECORD};
+use crate::{
+    heats::Heat,
+    map::{MapFile, Play},
+};
 
 /// All that is counted of a heat, a label for each time.
 pub fn labels(heat: &Heat) -> Vec<&'static str> {
@@ -55,13 +58,13 @@ fn refused(heat: &Heat, number: u8) -> &'static str {
 }
 
 fn scored(heat: &Heat, map: &MapFile, labels: &mut Vec<&'static str>) {
-    let label = |record: &[u8; PLAY_RECORD]| match checked_play(&heat.file, record, None) {
+    let label = |play: Result<Play, u8>| match play {
         Ok(play) => passed(play.passed.into(), map.objects.len()),
         Err(8) => "plays refused 8",
         Err(9) => "plays refused 9",
         Err(_) => "plays refused 10",
     };
-    let of_plays: Vec<&str> = heat.plays.iter().map(label).collect();
+    let of_plays: Vec<&str> = heat.checked_plays().map(label).collect();
     let is_scored = |label: &&str| label.starts_with("plays scored");
     let first = of_plays.iter().position(is_scored);
     let last = of_plays.iter().rposition(is_scored);

@@ -13,13 +13,16 @@ use borrow.Author.Tests.{ltb-false}
 use Rattle.rules.specs.Limits.{maxPlays}
 use Rattle.rules.specs.Refusals.{pick, HEAT}
 use Rattle.records.specs.Objects.{Object}
-use Rattle.map_file.specs.File.{Map}
+use Rattle.map_file.specs.File.{File, Map, Result, accepted, refusedAt}
 use Rattle.simulator.specs.Attributes.{scoreAttributesOf, scoreAttributesAt}
 use Rattle.simulator.specs.Nested.{noObject, countedAll}
 use Rattle.simulator.specs.declared.attributes.ScoreAttributes.{ScoreAttributes}
 use Rattle.simulator.proofs.Few.{count-is}
 use Rattle.map_reader.proofs.Passed.{attributes-passed}
-use Rattle.scoring.specs.Scores.{Outcome, refusal, values, Scores, mapScoreOf, givenPlayOf}
+use Rattle.scoring.specs.Scores.{Outcome, refusal, values, then, Scores, playScores, scoresOf, mapScoreOf}
+use Rattle.play_score.specs.declared.PlayScore.{PlayScore}
+use Rattle.play_reader.specs.declared.Simulated.{Simulated}
+use Rattle.play_reader.specs.declared.Simulated.the-variants as simulated
 use Rattle.scoring.specs.declared.score.MapScore.{MapScore}
 use Rattle.scoring.specs.declared.score.MapScore.the-variants as map·score
 use Rattle.host.specs.Answer.{givenAnswerOf}
@@ -58,33 +61,54 @@ unfolding scoreAttributesAt scoreAttributesOf
 all-objects m = ap (λ (os : List Object). countedAll noObject os .«object_count») (take-all (length (m .objects)) (m .objects) (omega arith)) ∙ count-is noObject (m .objects) ∙ zero-add (length (m .objects))
 
 -- a play that passed as many objects as there are, or more, has the attributes of all
-passed-is : (s : Scores) (p : ℕ) → passedOf (values s) (scoreAttributesAt (s .map) (length (s .map .objects))) p ≡ map·score.Map (scoreAttributesAt (s .map) p)
-passed-is s p = go (ltb p (all .«object_count»)) refl
+passed-is : (f : File) (p : ℕ) → passedOf (accepted f) (scoreAttributesAt (f .map) (length (f .map .objects))) p ≡ simulated.Map (scoreAttributesAt (f .map) p)
+passed-is f p = go (ltb p (all .«object_count»)) refl
   where
     n : ℕ
-    n = length (s .map .objects)
+    n = length (f .map .objects)
 
     all : ScoreAttributes
-    all = scoreAttributesAt (s .map) n
+    all = scoreAttributesAt (f .map) n
 
-    go : (b : Bool) → ltb p (all .«object_count») ≡ b → pick b (map·score.Map (scoreAttributesAt (s .map) p)) (map·score.Map all) ≡ map·score.Map (scoreAttributesAt (s .map) p)
+    go : (b : Bool) → ltb p (all .«object_count») ≡ b → pick b (simulated.Map (scoreAttributesAt (f .map) p)) (simulated.Map all) ≡ simulated.Map (scoreAttributesAt (f .map) p)
     go true e = refl
     go false e =
-        let most : n ≤ p = rw (all-objects (s .map)) at (ltb-false p (all .«object_count») e) in
-        ap map·score.Map (attributes-passed (s .map) n p (omega (arith, most)))
+        let most : n ≤ p = rw (all-objects (f .map)) at (ltb-false p (all .«object_count») e) in
+        ap simulated.Map (attributes-passed (f .map) n p (omega (arith, most)))
 
--- where a play is due its answer is what the single call gives
-one-is : (x : Outcome Scores) (n k i : ℕ) (p : HostPlay) → i < dueOf (startOf x n k) n → oneOf x (startOf x n k) p ≡ singleOf x p
-unfolding singleOf
-one-is (refusal number offset) n k i p l = refl
-one-is (values s) n k i p l = go (countsBad n k) l
-  where
-    all : ScoreAttributes
-    all = scoreAttributesAt (s .map) (length (s .map .objects))
+-- where a play is due the file's plays are all good, and its answer is what the single call gives
+module _ (n k i : ℕ) (p : HostPlay) where
+  abbrev Due : Outcome Scores → Type 0
+  Due x = i < dueOf (startOf x n k) n
 
-    go : (b : Bool) → i < dueOf (pick b (start.Refused HEAT 0) (start.Ready all)) n → oneOf (values s) (pick b (start.Refused HEAT 0) (start.Ready all)) p ≡ givenAnswerOf (givenPlayOf (playIn p) (values s))
-    go true d = absurd (omega (arith, d))
-    go false d = ap (λ (m : MapScore). givenAnswerOf (scoreBy (playIn p) m)) (passed-is s (playIn p .«passed_objects»))
+  abbrev Same : Result → Outcome Scores → Type 0
+  Same f x = oneOf f (startOf x n k) p ≡ singleOf x p
+
+  refused-none : (number offset : ℕ) (y : Outcome (List PlayScore)) → Due (then y (λ ss. refusal number offset)) → ⊥
+  refused-none number offset (refusal m at) d = omega (arith, d)
+  refused-none number offset (values ss) d = omega (arith, d)
+
+  one-is : (f : Result) → Due (scoresOf f) → Same f (scoresOf f)
+  unfolding singleOf
+  one-is (refusedAt number offset f) d = absurd (refused-none number offset (playScores (f .map) (f .plays)) d)
+  one-is (accepted f) d = go (playScores (f .map) (f .plays)) d
+    where
+      all : ScoreAttributes
+      all = scoreAttributesAt (f .map) (length (f .map .objects))
+
+      scored : List PlayScore → Scores
+      scored ss = record { map = f .map; plays = ss }
+
+      start-of : Bool → HeatStart
+      start-of b = pick b (start.Refused HEAT 0) (start.Ready all)
+
+      by : (ss : List PlayScore) (b : Bool) → i < dueOf (start-of b) n → oneOf (accepted f) (start-of b) p ≡ singleOf (values (scored ss)) p
+      by ss true d = absurd (omega (arith, d))
+      by ss false d = ap (λ (m : Simulated). givenAnswerOf (scoreBy (playIn p) m)) (passed-is f (playIn p .«passed_objects»))
+
+      go : (y : Outcome (List PlayScore)) → Due (then y (λ ss. values (scored ss))) → Same (accepted f) (then y (λ ss. values (scored ss)))
+      go (refusal m at) d = absurd (omega (arith, d))
+      go (values ss) d = by ss (countsBad n k) d
 
 -- ---- the loop, on the lists that it is lent
 -- the outcomes behind the first i plays
@@ -100,7 +124,10 @@ unfolding outcomesAfter
 same-length x ps os i now e = ap length e ∙ over-length (singleOf x) (take i ps) os
 
 -- from a start that is the heat's
-module _ (x : Outcome Scores) (ps : List HostPlay) (os : List PlayAnswer) (s : HeatStart) (is : s ≡ startOf x (length ps) (length os)) where
+module _ (f : Result) (ps : List HostPlay) (os : List PlayAnswer) (s : HeatStart) (is : s ≡ startOf (scoresOf f) (length ps) (length os)) where
+  abbrev x : Outcome Scores
+  x = scoresOf f
+
   room : Fits s (length ps) (length os)
   room = subst (λ (t : HeatStart). Fits t (length ps) (length os)) (sym is) (fits x (length ps) (length os))
 
@@ -116,11 +143,11 @@ module _ (x : Outcome Scores) (ps : List HostPlay) (os : List PlayAnswer) (s : H
 
   -- a turn: the next play's answer in its outcome
   pub one-more : (i : ℕ) (d : HostPlay) (now : List PlayAnswer) (answer : PlayAnswer) → i < dueOf s (length ps) → i < length ps → now ≡ outcomesAfter x ps os i
-      → answer ≡ oneOf x s (getD ps i d) → set now i answer ≡ outcomesAfter x ps os (i + 1)
+      → answer ≡ oneOf f s (getD ps i d) → set now i answer ≡ outcomesAfter x ps os (i + 1)
   unfolding outcomesAfter
   one-more i d now answer due in-plays e a =
       let p : HostPlay = getD ps i d in
-      let single : answer ≡ singleOf x p = a ∙ ap (λ (t : HeatStart). oneOf x t p) is ∙ one-is x (length ps) (length os) i p (subst (λ (t : HeatStart). i < dueOf t (length ps)) is due) in
+      let single : answer ≡ singleOf x p = a ∙ ap (λ (t : HeatStart). oneOf f t p) is ∙ one-is (length ps) (length os) i p f (subst (λ (t : HeatStart). i < dueOf t (length ps)) is due) in
       ap (λ (y : PlayAnswer). set now i y) single ∙ ap (λ (y : List PlayAnswer). set y i (singleOf x p)) e ∙ over-next (singleOf x) d i ps os in-plays
 
   -- behind the last play that is due the outcomes are those that a heat leaves

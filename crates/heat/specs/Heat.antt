@@ -8,11 +8,15 @@ use lib.Dec.{ltb}
 use Rattle.rules.specs.Limits.{maxPlays}
 use Rattle.rules.specs.Refusals.{pick, HEAT}
 use Rattle.play_state.specs.declared.Play.{Play}
+use Rattle.map_file.specs.File.{Result}
 use Rattle.simulator.specs.declared.attributes.ScoreAttributes.{ScoreAttributes}
+use Rattle.play_reader.specs.View.{simulatedOf}
+use Rattle.play_reader.specs.declared.Simulated.{Simulated}
+use Rattle.play_reader.specs.declared.Simulated.the-variants as simulated
 use Rattle.play_score.specs.PlayRules.{givenAnswer, givenScore}
 use Rattle.play_score.specs.declared.GivenPlay.{GivenPlay}
 use Rattle.play_score.specs.declared.GivenPlay.the-variants as given
-use Rattle.scoring.specs.Scores.{Outcome, Scores, passedScoreOf, mapScoreOf, givenPlayOf}
+use Rattle.scoring.specs.Scores.{Outcome, Scores, mapScoreOf, givenPlayOf}
 use Rattle.scoring.specs.declared.score.MapScore.{MapScore}
 use Rattle.scoring.specs.declared.score.MapScore.the-variants as map·score
 use Rattle.host.specs.Play.{playIn}
@@ -60,14 +64,14 @@ abbrev pub dueOf : HeatStart → ℕ → ℕ
 dueOf (start.Ready all) plays = plays
 dueOf (start.Refused number offset) plays = 0
 
--- the attributes of the passed objects, from those of all where these are no more
-abbrev pub passedOf : Outcome Scores → ScoreAttributes → ℕ → MapScore
-passedOf x all passed = pick (ltb passed (all .«object_count»)) (passedScoreOf passed x) (map·score.Map all)
+-- the attributes of the passed objects: those of all where these are no more, else worked out again from the file, whose plays are checked by then
+abbrev pub passedOf : Result → ScoreAttributes → ℕ → Simulated
+passedOf f all passed = pick (ltb passed (all .«object_count»)) (simulatedOf f passed) (simulated.Map all)
 
-abbrev pub scoreBy : Play → MapScore → GivenPlay
-scoreBy p (map·score.Refused number offset) = given.Refused number offset
-scoreBy p (map·score.Map a) = givenAnswer (givenScore p a)
+abbrev pub scoreBy : Play → Simulated → GivenPlay
+scoreBy p (simulated.Refused number offset) = given.Refused number offset
+scoreBy p (simulated.Map a) = givenAnswer (givenScore p a)
 
-abbrev pub oneOf : Outcome Scores → HeatStart → HostPlay → PlayAnswer
-oneOf x (start.Ready all) p = givenAnswerOf (scoreBy (playIn p) (passedOf x all (playIn p .«passed_objects»)))
-oneOf x (start.Refused number offset) p = playAnswerRefused number offset
+abbrev pub oneOf : Result → HeatStart → HostPlay → PlayAnswer
+oneOf f (start.Ready all) p = givenAnswerOf (scoreBy (playIn p) (passedOf f all (playIn p .«passed_objects»)))
+oneOf f (start.Refused number offset) p = playAnswerRefused number offset

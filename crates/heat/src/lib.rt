@@ -6,13 +6,14 @@ use host::answer::play_answer_refused;
 use host::play::HostPlay;
 use host::play::play_in;
 use host::status::Status;
+use play_reader::Simulated;
+use play_reader::simulate;
 use play_score::GivenPlay;
 use play_score::score_given;
 use play_state::Play;
 use rules::refusal;
 use scoring::score::MapScore;
 use scoring::score::score_map;
-use scoring::score::score_passed;
 use simulator::attributes::ScoreAttributes;
 ghost use mathlib.Core.Path.{_≡_};
 ghost use Rattle.map_file.specs.File.{fileOf};
@@ -79,36 +80,36 @@ pub fn heat_status(start: HeatStart) -> Status
     }
 }
 
-// The attributes of the passed objects: where these are all, they are known; else the file is read again.
-fn passed_of(file: &[u8], all: ScoreAttributes, passed: u64) -> MapScore
-    ensures { λ r. ⌜ r ≡ passedOf (scoresOf (fileOf (now (file .entry)))) all passed ⌝ }
+// The attributes of the passed objects: where these are all, they are known; else the file is read again, without the scores of its own plays.
+fn passed_of(file: &[u8], all: ScoreAttributes, passed: u64) -> Simulated
+    ensures { λ r. ⌜ r ≡ passedOf (fileOf (now (file .entry))) all passed ⌝ }
 {
     if all.object_count <= passed {
-        return MapScore::Map(all);
+        return Simulated::Map(all);
     }
-    score_passed(file, passed)
+    simulate(file, passed)
 }
 
 // A play from there on goes the single call's way.
-fn score_by(play: Play, score: MapScore) -> GivenPlay
-    ensures { λ r. ⌜ r ≡ scoreBy play score ⌝ }
+fn score_by(play: Play, passed: Simulated) -> GivenPlay
+    ensures { λ r. ⌜ r ≡ scoreBy play passed ⌝ }
 {
-    match score {
-        MapScore::Refused { number, offset } => GivenPlay::Refused { number, offset },
-        MapScore::Map(a) => score_given(play, a),
+    match passed {
+        Simulated::Refused { number, offset } => GivenPlay::Refused { number, offset },
+        Simulated::Map(a) => score_given(play, a),
     }
 }
 
 // The outcome of one play; of a refused call none is due.
 pub fn heat_one(file: &[u8], start: HeatStart, play: HostPlay) -> PlayAnswer
-    ensures { λ r. ⌜ r ≡ oneOf (scoresOf (fileOf (now (file .entry)))) start play ⌝ }
+    ensures { λ r. ⌜ r ≡ oneOf (fileOf (now (file .entry))) start play ⌝ }
 {
     match start {
         HeatStart::Refused { number, offset } => play_answer_refused(number, offset),
         HeatStart::Ready(all) => {
             let play = play_in(play);
-            let score = passed_of(file, all, play.passed_objects as u64);
-            given_answer_of(score_by(play, score))
+            let passed = passed_of(file, all, play.passed_objects as u64);
+            given_answer_of(score_by(play, passed))
         }
     }
 }

@@ -20,7 +20,7 @@ use borrow.Fn.World.{World}
 use borrow.Fn.Written.{close}
 use borrow.Kind.MutSlice.{fix-len}
 use Rattle.rules.specs.Limits.{maxPlays}
-use Rattle.map_file.specs.File.{fileOf}
+use Rattle.map_file.specs.File.{Result, fileOf}
 use Rattle.scoring.specs.Scores.{Outcome, Scores, scoresOf}
 use Rattle.heat.specs.Heat.{dueOf}
 use Rattle.host.specs.declared.play.HostPlay.{HostPlay}
@@ -47,14 +47,15 @@ use Rattle.popejoanplum.proofs.HeatClaims.{ps, r, Pre, Post, Pinned, Ow
 -- what the derivation asks, in its order: two calls, the loop's entry, its turns and its end, and the last call
 asked : (κs : Lfts 3) (qs : Shares 3) (a : Dens κs ps) → GoodsP κs ps a → Pre κs a → (bs : List ℕ) → body κs qs .Φ bs (wantQ 3 ps r xs 0 κs qs a (Post κs a)) (init 3 ps r xs 0 κs qs a)
 asked κs qs a sound pre bs =
-    let x : Outcome Scores = scoresOf (fileOf (a .0 .now)) in
+    let f : Result = fileOf (a .0 .now) in
+    let x : Outcome Scores = scoresOf f in
     let p : List HostPlay = a .1 .0 .now in
     let o : List PlayAnswer = a .1 .1 .0 .now in (
       (λ ks. tt),
       λ cs. (
         (λ ks. tt),
         λ cn.
-            let fits : (cn .1 ≤ maxPlays) × (cn .1 ≤ length p) × (cn .1 ≤ length o) = due-fits x p o (cs .1) (cs .5) (cn .1) (cn .5) in (
+            let fits : (cn .1 ≤ maxPlays) × (cn .1 ≤ length p) × (cn .1 ≤ length o) = due-fits f p o (cs .1) (cs .5) (cn .1) (cn .5) in (
               ((o, 0), refl, (omega arith, none-yet x p o)),
               λ vs inv.
                   let i : ℕ = vs .1 in
@@ -86,7 +87,7 @@ asked κs qs a sound pre bs =
                                             (
                                               (set (vs .0) i (c .1), i + 1),
                                               refl,
-                                              (omega (arith, l), one-more x p o (cs .1) (cs .5) i no-play (vs .0) (c .1) due m (inv .1) (c .5)),
+                                              (omega (arith, l), one-more f p o (cs .1) (cs .5) i no-play (vs .0) (c .1) due m (inv .1) (c .5)),
                                               refl,
                                             ),
                                           ),
@@ -102,7 +103,7 @@ asked κs qs a sound pre bs =
                         (λ ks. tt),
                         λ ct. (
                           (refl, (refl, (fix-len (a .1 .1 .0 .ptr) (a .1 .1 .0 .name) (vs .0) o same, tt))),
-                          all-done x p o (cs .1) (cs .5) (cn .1) i (vs .0) (ct .1) (cn .5) (inv .0) (ltb-false i (cn .1) z) (inv .1) (ct .5),
+                          all-done f p o (cs .1) (cs .5) (cn .1) i (vs .0) (ct .1) (cn .5) (inv .0) (ltb-false i (cn .1) z) (inv .1) (ct .5),
                         ),
                       )),
                     ),

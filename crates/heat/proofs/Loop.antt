@@ -36,14 +36,14 @@ use Rattle.heat.specs.declared.HeatStart.the-variants as start
 use Rattle.heat.proofs.Front.{over, over-none, over-next, over-length, over-all}
 
 -- ---- a heat that is not refused has at most 64 plays, and an outcome for each
-abbrev IsReady : HeatStart → Type 0
+abbrev pub IsReady : HeatStart → Type 0
 IsReady (start.Ready all) = Unit
 IsReady (start.Refused number offset) = ⊥
 
-abbrev Fits : HeatStart → ℕ → ℕ → Type 0
+abbrev pub Fits : HeatStart → ℕ → ℕ → Type 0
 Fits s plays outcomes = IsReady s → (plays ≤ maxPlays) × (plays ≤ outcomes)
 
-fits : (x : Outcome Scores) (n k : ℕ) → Fits (startOf x n k) n k
+pub fits : (x : Outcome Scores) (n k : ℕ) → Fits (startOf x n k) n k
 fits x n k = by (mapScoreOf x)
   where
     go : (all : ScoreAttributes) (b c : Bool) → ltb maxPlays n ≡ b → ltb k n ≡ c → Fits (pick (b || c) (start.Refused HEAT 0) (start.Ready all)) n k

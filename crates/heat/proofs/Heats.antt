@@ -37,7 +37,13 @@ front-beyond f (p ∷ ps) [] i e h l = absurd (omega (arith, h))
 front-beyond f (p ∷ ps) (o ∷ os) zero e h l = absurd (omega (arith, l))
 front-beyond f (p ∷ ps) (o ∷ os) (suc i) e h l = front-beyond f ps os i e (le-of-suc-le-suc h) (le-of-suc-le-suc l)
 
--- ---- a refusal's number: a rule of the file, or 15
+-- ---- the status of a heat: none, a rule of the file, or 15
+pub data HeatNumber : ℕ → Type 0 where
+  none : HeatNumber 0
+  of-file : {n : ℕ} → IsRule n → HeatNumber n
+  of-counts : HeatNumber 15
+
+-- a refusal's number is above 0
 abbrev Told : HeatStart → Type 0
 Told (start.Ready all) = Unit {0}
 Told (start.Refused number offset) = 1 ≤ number
@@ -61,6 +67,18 @@ module _ (s : List ℕ) (ps : List HostPlay) (os : List PlayAnswer) where
 
       go : (y : Outcome Scores) → x ≡ y → Told (startOf y (length ps) (length os))
       go (refusal n at) e = let r = refusal-rule s n at e in omega (arith, r .0)
+      go (values v) e = by _ (countsBad (length ps) (length os))
+
+  pub heat-numbers : HeatNumber (left .0 .status)
+  unfolding heatOf
+  heat-numbers = go x refl
+    where
+      by : (all : ScoreAttributes) (b : Bool) → HeatNumber (heatStatusOf (pick b (start.Refused HEAT 0) (start.Ready all)) .status)
+      by all true = of-counts
+      by all false = none
+
+      go : (y : Outcome Scores) → x ≡ y → HeatNumber (heatStatusOf (startOf y (length ps) (length os)) .status)
+      go (refusal n at) e = of-file (refusal-rule s n at e)
       go (values v) e = by _ (countsBad (length ps) (length os))
 
   -- "a refused call changes no lent memory"

@@ -4,17 +4,15 @@ use Prim.Native.Nat.{ℕ, zero, suc, _≤_, _<_}
 use native.Mathlib.Nat.{le-of-suc-le-suc}
 use native.Mathlib.Omega.{arith}
 use mathlib.Core.Path.{_≡_, refl, ap, _∙_}
-use mathlib.Core.Bool.{Bool, true, false, _||_}
+use mathlib.Core.Bool.{Bool, true, false}
 use mathlib.Core.List.{List, [], _∷_, map, _++_}
 use lib.ListN.{length, drop, getD}
-use lib.Dec.{ltb}
 use borrow.Author.Tests.{le-ltb}
 use Rattle.rules.specs.Refusals.{pick, HEAT}
 use Rattle.rules.specs.Limits.{maxPlays}
 use Rattle.map_file.specs.File.{fileOf}
 use Rattle.simulator.specs.declared.attributes.ScoreAttributes.{ScoreAttributes}
 use Rattle.scoring.specs.Scores.{Outcome, refusal, values, Scores, scoresOf}
-use Rattle.scoring.specs.declared.score.MapScore.the-variants as map·score
 use Rattle.scoring.proofs.Rules.{IsRule, refusal-rule}
 use Rattle.host.specs.declared.answer.PlayAnswer.{PlayAnswer}
 use Rattle.host.specs.declared.play.HostPlay.{HostPlay}

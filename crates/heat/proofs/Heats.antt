@@ -4,20 +4,26 @@ use Prim.Native.Nat.{ℕ, zero, suc, _≤_, _<_}
 use native.Mathlib.Nat.{le-of-suc-le-suc}
 use native.Mathlib.Omega.{arith}
 use mathlib.Core.Path.{_≡_, refl, ap, _∙_}
-use mathlib.Core.Bool.{Bool, true, false}
+use mathlib.Core.Bool.{Bool, true, false, _||_}
 use mathlib.Core.List.{List, [], _∷_, map, _++_}
 use lib.ListN.{length, drop, getD}
-use borrow.Author.Tests.{le-ltb}
-use Rattle.rules.specs.Refusals.{pick, HEAT}
+use lib.Dec.{ltb}
+use borrow.Author.Tests.{lt-ltb, le-ltb}
+use Rattle.rules.specs.Refusals.{Checked, refused, good, pick, HEAT}
 use Rattle.rules.specs.Limits.{maxPlays}
 use Rattle.map_file.specs.File.{fileOf}
+use Rattle.simulator.specs.Attributes.{scoreAttributesAt}
 use Rattle.simulator.specs.declared.attributes.ScoreAttributes.{ScoreAttributes}
+use Rattle.play_score.specs.PlayRules.{givenAnswer, givenScore}
+use Rattle.play_score.specs.declared.PlayScore.{PlayScore}
 use Rattle.scoring.specs.Scores.{Outcome, refusal, values, Scores, scoresOf}
 use Rattle.scoring.proofs.Rules.{IsRule, refusal-rule}
+use Rattle.host.specs.Play.{playIn}
+use Rattle.host.specs.Answer.{givenAnswerOf, singleOf}
 use Rattle.host.specs.declared.answer.PlayAnswer.{PlayAnswer}
 use Rattle.host.specs.declared.play.HostPlay.{HostPlay}
 use Rattle.host.specs.declared.status.Status.{Status}
-use Rattle.heat.specs.Heat.{countsBad, startOf, heatStatusOf, singleOf, outcomesOf, heatOf}
+use Rattle.heat.specs.Heat.{countsBad, startOf, heatStatusOf, outcomesOf, heatOf}
 use Rattle.heat.specs.declared.HeatStart.{HeatStart}
 use Rattle.heat.specs.declared.HeatStart.the-variants as start
 use Rattle.heat.proofs.Loop.{Fits, fits}
@@ -40,6 +46,10 @@ pub data HeatNumber : ℕ → Type 0 where
   none : HeatNumber 0
   of-file : {n : ℕ} → IsRule n → HeatNumber n
   of-counts : HeatNumber 15
+
+at-zero : (x : Checked PlayScore) → givenAnswerOf (givenAnswer x) .offset ≡ 0
+at-zero (refused number) = refl
+at-zero (good score) = refl
 
 -- a refusal's number is above 0
 abbrev Told : HeatStart → Type 0
@@ -99,11 +109,26 @@ module _ (s : List ℕ) (ps : List HostPlay) (os : List PlayAnswer) where
   heat-within-is-good v e few room =
       ap (λ (y : Outcome Scores). heatStatusOf (startOf y (length ps) (length os))) e ∙ simp (le-ltb maxPlays (length ps) few, le-ltb (length os) (length ps) room)
 
-  module _ (good : left .0 .status ≡ 0) where
-    -- "15: more than 64 plays, or fewer outcomes than plays"
+  -- "15: more than 64 plays, or fewer outcomes than plays", with offset 0
+  pub more-than-64-plays-get-15 : (v : Scores) → x ≡ values v → 64 < length ps → left .0 ≡ record { status = 15; offset = 0 }
+  unfolding heatOf
+  more-than-64-plays-get-15 v e many =
+      ap (λ (y : Outcome Scores). heatStatusOf (startOf y (length ps) (length os))) e ∙ simp (lt-ltb maxPlays (length ps) many)
+
+  pub fewer-outcomes-get-15 : (v : Scores) → x ≡ values v → length os < length ps → left .0 ≡ record { status = 15; offset = 0 }
+  unfolding heatOf
+  fewer-outcomes-get-15 v e few =
+      ap (λ (y : Outcome Scores). heatStatusOf (startOf y (length ps) (length os))) e ∙ by _ (ltb maxPlays (length ps)) (ltb (length os) (length ps)) (lt-ltb (length os) (length ps) few)
+    where
+      by : (all : ScoreAttributes) (b c : Bool) → c ≡ true → heatStatusOf (pick (b || c) (start.Refused HEAT 0) (start.Ready all)) ≡ record { status = 15; offset = 0 }
+      by all true c e = refl
+      by all false c e = ap (λ (d : Bool). heatStatusOf (pick d (start.Refused HEAT 0) (start.Ready all))) e
+
+  module _ (done : left .0 .status ≡ 0) where
+    -- no other heat is good
     pub good-heat-fits : (length ps ≤ 64) × (length ps ≤ length os)
     unfolding heatOf
-    good-heat-fits = go begun told good (fits x (length ps) (length os))
+    good-heat-fits = go begun told done (fits x (length ps) (length os))
       where
         go : (t : HeatStart) → Told t → heatStatusOf t .status ≡ 0 → Fits t (length ps) (length os) → (length ps ≤ maxPlays) × (length ps ≤ length os)
         go (start.Ready all) k e f = f tt
@@ -111,7 +136,7 @@ module _ (s : List ℕ) (ps : List HostPlay) (os : List PlayAnswer) where
 
     left-is : left .1 ≡ map (singleOf x) ps ++ drop (length ps) os
     unfolding heatOf
-    left-is = go begun told good
+    left-is = go begun told done
       where
         go : (t : HeatStart) → Told t → heatStatusOf t .status ≡ 0 → outcomesOf t x ps os ≡ map (singleOf x) ps ++ drop (length ps) os
         go (start.Ready all) k e = refl
@@ -120,6 +145,15 @@ module _ (s : List ℕ) (ps : List HostPlay) (os : List PlayAnswer) where
     -- "for each play what a single call without factors gives, its refusal included": whatever became of the plays before it
     pub each-play-as-alone : (i : ℕ) (p : HostPlay) (o : PlayAnswer) → i < length ps → getD (left .1) i o ≡ singleOf x (getD ps i p)
     each-play-as-alone i p o l = ap (λ (l : List PlayAnswer). getD l i o) left-is ∙ front-at (singleOf x) ps (drop (length ps) os) i p o l
+
+    -- "with offset 0"
+    pub each-outcome-at-zero : (i : ℕ) (p : HostPlay) (o : PlayAnswer) → i < length ps → getD (left .1) i o .offset ≡ 0
+    unfolding heatOf singleOf
+    each-outcome-at-zero i p o l = ap (λ (a : PlayAnswer). a .offset) (each-play-as-alone i p o l) ∙ go x refl done
+      where
+        go : (y : Outcome Scores) → x ≡ y → heatStatusOf (startOf y (length ps) (length os)) .status ≡ 0 → singleOf y (getD ps i p) .offset ≡ 0
+        go (refusal n at) e d = let r = refusal-rule s n at e in absurd (omega (arith, r .0, d))
+        go (values v) e d = at-zero (givenScore (playIn (getD ps i p)) (scoreAttributesAt (v .map) (playIn (getD ps i p) .«passed_objects»)))
 
     -- "outcomes beyond the last play stay"
     pub outcomes-beyond-stay : (i : ℕ) (o : PlayAnswer) → length ps ≤ i → getD (left .1) i o ≡ getD os i o

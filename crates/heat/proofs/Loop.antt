@@ -25,12 +25,12 @@ use Rattle.play_reader.specs.declared.Simulated.{Simulated}
 use Rattle.play_reader.specs.declared.Simulated.the-variants as simulated
 use Rattle.scoring.specs.declared.score.MapScore.{MapScore}
 use Rattle.scoring.specs.declared.score.MapScore.the-variants as map·score
-use Rattle.host.specs.Answer.{givenAnswerOf}
+use Rattle.host.specs.Answer.{givenAnswerOf, singleOf}
 use Rattle.host.specs.Play.{playIn}
 use Rattle.host.specs.declared.answer.PlayAnswer.{PlayAnswer}
 use Rattle.host.specs.declared.play.HostPlay.{HostPlay}
 use Rattle.host.specs.declared.status.Status.{Status}
-use Rattle.heat.specs.Heat.{countsBad, startBy, startOf, heatStatusOf, dueOf, passedOf, scoreBy, oneOf, singleOf, outcomesOf, heatOf}
+use Rattle.heat.specs.Heat.{countsBad, startBy, startOf, heatStatusOf, dueOf, passedOf, scoreBy, oneOf, outcomesOf, heatOf}
 use Rattle.heat.specs.declared.HeatStart.{HeatStart}
 use Rattle.heat.specs.declared.HeatStart.the-variants as start
 use Rattle.heat.proofs.Front.{over, over-none, over-next, over-length, over-all}

@@ -4,21 +4,19 @@ use mathlib.Core.Path.{_≡_, refl}
 use mathlib.Core.List.{List, [], _∷_, _++_, map}
 use lib.ListN.{replicate}
 use lib.Ieee.{Float, binary32, binary64, ofBits, lt, le, eq}
-use Rattle.rules.specs.Refusals.{Checked, refused, good, _>>_, refuse_when_}
+use Rattle.rules.specs.Refusals.{_>>_, refuse_when_}
 use Rattle.records.specs.Objects.{circle, slider, tick, repeat}
 use Rattle.play_state.specs.Play.{flagsBad}
 use Rattle.simulator.specs.Attributes.{difficultyAttributesOf, scoreAttributesOf, scoreAttributesAt}
 use Rattle.simulator.specs.Hits.{hitsOf}
 use Rattle.simulator.specs.Nested.{counted, countedAll}
 use Rattle.simulator.specs.Walk.{walk, after}
-use Rattle.play_score.specs.PlayRules.{modsBad, exceeds, hitsExceed, overCombo, isDue, playScore, givenAnswer, givenScore}
-use Rattle.play_score.specs.declared.PlayScore.{PlayScore}
+use Rattle.play_score.specs.PlayRules.{modsBad, exceeds, hitsExceed, overCombo, isDue, playScore, givenScore}
 use Rattle.scoring.specs.Scores.{Outcome, refusal, values, Scores}
-use Rattle.host.specs.Answer.{playAnswerRefused, givenAnswerOf}
-use Rattle.host.specs.Play.{playIn}
+use Rattle.host.specs.Answer.{playAnswerRefused, singleOf}
 use Rattle.host.specs.declared.answer.PlayAnswer.{PlayAnswer}
 use Rattle.host.specs.declared.play.HostPlay.{HostPlay}
-use Rattle.heat.specs.Heat.{singleOf, heatOf}
+use Rattle.heat.specs.Heat.{heatOf}
 
 abbrev five : Float
 five = ofBits binary32 0x40a0_0000
@@ -106,12 +104,3 @@ heats =
 heats-left : map (λ (r : Row). heat (r .0) (r .1) (r .2)) heats ≡ map (λ (r : Row). r .3) heats
 unfolding heats heatOf singleOf givenScore modsBad flagsBad playScore exceeds hitsExceed overCombo isDue scoreAttributesAt scoreAttributesOf difficultyAttributesOf after walk hitsOf countedAll counted _>>_ refuse_when_ ofBits lt le eq
 heats-left = refl
-
--- "with offset 0": any play on any file that is accepted
-at-zero : (x : Checked PlayScore) → givenAnswerOf (givenAnswer x) .offset ≡ 0
-at-zero (refused number) = refl
-at-zero (good score) = refl
-
-play-at-zero : (s : Scores) (p : HostPlay) → singleOf (values s) p .offset ≡ 0
-unfolding singleOf
-play-at-zero s p = at-zero (givenScore (playIn p) (scoreAttributesAt (s .map) (playIn p .«passed_objects»)))

@@ -16,11 +16,11 @@ use Rattle.play_reader.specs.declared.Simulated.the-variants as simulated
 use Rattle.play_score.specs.PlayRules.{givenAnswer, givenScore}
 use Rattle.play_score.specs.declared.GivenPlay.{GivenPlay}
 use Rattle.play_score.specs.declared.GivenPlay.the-variants as given
-use Rattle.scoring.specs.Scores.{Outcome, Scores, mapScoreOf, givenPlayOf}
+use Rattle.scoring.specs.Scores.{Outcome, Scores, mapScoreOf}
 use Rattle.scoring.specs.declared.score.MapScore.{MapScore}
 use Rattle.scoring.specs.declared.score.MapScore.the-variants as map·score
 use Rattle.host.specs.Play.{playIn}
-use Rattle.host.specs.Answer.{playAnswerRefused, givenAnswerOf}
+use Rattle.host.specs.Answer.{playAnswerRefused, givenAnswerOf, singleOf}
 use Rattle.host.specs.declared.answer.PlayAnswer.{PlayAnswer}
 use Rattle.host.specs.declared.play.HostPlay.{HostPlay}
 use Rattle.host.specs.declared.status.Status.{Status}
@@ -44,11 +44,7 @@ abbrev pub heatStatusOf : HeatStart → Status
 heatStatusOf (start.Ready all) = record { status = 0; offset = 0 }
 heatStatusOf (start.Refused number offset) = record { status = number; offset = offset }
 
--- "what a single call without factors gives, its refusal included": the answer of `pjp_score_play`
-unfoldable pub singleOf : Outcome Scores → HostPlay → PlayAnswer
-singleOf x p = givenAnswerOf (givenPlayOf (playIn p) x)
-
--- "for each play .."; "outcomes beyond the last play stay", and where the call is refused all of them do
+-- "for each play what a single call without factors gives, its refusal included": `singleOf`, the answer of `pjp_score_play`; "outcomes beyond the last play stay", and where the call is refused all of them do
 abbrev pub outcomesOf : HeatStart → Outcome Scores → List HostPlay → List PlayAnswer → List PlayAnswer
 outcomesOf (start.Ready all) x plays outcomes = map (singleOf x) plays ++ drop (length plays) outcomes
 outcomesOf (start.Refused number offset) x plays outcomes = outcomes

@@ -1,7 +1,8 @@
 -- The contract of `pjp_heat` as claims on plain values: its kinds of parameters, and what its clause says, read in every model. Assumes nothing.
-use mathlib.Core.Path.{refl}
+use mathlib.Core.Path.{_≡_, refl}
 use contract.Lifetimes.{Lfts}
 use contract.Monad.{top}
+use denote.Ref.{now}
 use denote.Triple.Clauses.{AtExit}
 use mathlib.Core.List.{List, [], _∷_}
 use mir.Syntax.{w8}
@@ -14,6 +15,9 @@ use borrow.Fn.Read.{Read, r-top, r-last, all-models, no-know, all∗}
 use borrow.Fn.World.{World, ArgsD, ResD, Pr}
 use borrow.Fn.World as world
 use borrow.Fn.Written as written
+use Rattle.map_file.specs.File.{fileOf}
+use Rattle.scoring.specs.Scores.{scoresOf}
+use Rattle.heat.specs.Heat.{heatOf}
 use Rattle.host.proofs.status.Status
 use Rattle.host.proofs.status.Status.Laws as Status-laws
 use Rattle.host.proofs.play.HostPlay
@@ -51,6 +55,11 @@ Pre = written.Pre 3 ps r (Unit {0}) requires ensures pre-read Pinned Owned post-
 
 abbrev pub Post : Out 3 ps r
 Post = written.Post 3 ps r (Unit {0}) requires ensures pre-read Pinned Owned post-read tt
+
+-- the whole of the contract, so that a weaker one would be refused here
+says : (κs : Lfts 3) (a : ArgsD heat.signature κs) (x : ResD heat.signature κs) (s : AtExit (endedOf 3 ps r) κs) → Post κs a x s
+    → (x, now (s .1 .1 .0)) ≡ heatOf (scoresOf (fileOf (now (a .0)))) (now (a .1 .0)) (now (a .1 .1 .0))
+says κs a x s p = p
 
 pub passes : (w : World) → written.Passes 3 ps r (Unit {0}) requires ensures pre-read Pinned Owned post-read w
 passes w κs a g x ws ft p q = top (w .𝓤) (all∗ w (pre-read κs a g .held w))

@@ -45,7 +45,7 @@ ghost use Rattle.board.specs.Read.{readOf};
 ghost use Rattle.host.specs.Status.{boardWords, statusLeft};
 ghost use Rattle.host.specs.Map.{settingsIn, mapInfoOf};
 ghost use Rattle.host.specs.Play.{playIn};
-ghost use Rattle.host.specs.Answer.{mapAnswerOf, givenAnswerOf, listedAnswerOf};
+ghost use Rattle.host.specs.Answer.{mapAnswerOf, givenAnswerOf, singleOf, listedAnswerOf};
 ghost use Rattle.slider_breaks.specs.Given.{withBreaks};
 ghost use Rattle.host.specs.Breaks.{factorsIn, breaksAnswerOf};
 ghost use Rattle.heat.specs.Heat.{heatOf};
@@ -80,7 +80,7 @@ pub extern "C" fn pjp_score_map(file: &[u8]) -> MapAnswer
 // A play that is given beside the file.
 #[no_mangle]
 pub extern "C" fn pjp_score_play(file: &[u8], play: HostPlay) -> PlayAnswer
-    ensures { λ r. ⌜ r ≡ givenAnswerOf (givenPlayOf (playIn play) (scoresOf (fileOf (now (file .entry))))) ⌝ }
+    ensures { λ r. ⌜ r ≡ singleOf (scoresOf (fileOf (now (file .entry)))) play ⌝ }
 {
     given_answer_of(score_play(file, play_in(play)))
 }

@@ -2,8 +2,9 @@
 
 use crate::{
     boards::{BoardTimes, FactorTimes, Pair},
-    cases::LONG_SLIDERS,
+    cases::{HEAT_PLAYS, LONG_SLIDERS, WHOLE_HEATS},
     figure::Figure,
+    heats::HeatTimes,
     instructions::Counts,
     number::{judged, whole},
     own_plays::OwnTimes,
@@ -130,6 +131,7 @@ pub fn asked(results: &Results, processor: &str) -> String {
     aims.extend(with_factors(results));
     aims.extend(against_plain(results));
     aims.extend(scores(results));
+    aims.extend(heats(results));
     aims.extend(files(results));
     aims.extend(own_plays(results));
     let rows = aims.iter().map(Aim::row).collect();
@@ -267,6 +269,24 @@ fn of_scores(rows: &[Row<ScoreTimes>], asked: &[(usize, f64)]) -> Vec<Aim> {
     asked.iter().map(aim).collect()
 }
 
+/// All plays of a heat in the time of a few calls on one.
+fn heats(results: &Results) -> Vec<Aim> {
+    const OBJECTS: usize = 1_000;
+    let is_asked =
+        |row: &Row<HeatTimes>| row.any().name == WHOLE_HEATS && row.any().size == OBJECTS;
+    let aim = |row: Row<HeatTimes>| Aim {
+        what: format!(
+            "`pjp_heat`, {HEAT_PLAYS} plays that passed all objects, against one call of `pjp_score_play`: {} files in turn",
+            whole(row.any().files as u64)
+        ),
+        objects: OBJECTS,
+        asked: AtMost(3.0, Unit::OfTime),
+        measured: Some(row.figure(|times| times.heat / times.call)),
+    };
+    let rows = results.rows(|round| &round.heats);
+    rows.into_iter().filter(is_asked).map(aim).collect()
+}
+
 /// The calls that go through a whole file.
 fn files(results: &Results) -> Vec<Aim> {
     let count = |(size, most)| Aim {
@@ -357,6 +377,7 @@ mod tests {
             "turn | 100 | at most 0.4 × the time | 0.350 × (0.175 to 0.700) | yes, in 2 of 3 |",
             "turn | 1,000 | at most 0.34 × the time | 0.350 × (0.175 to 0.700) | no, in 1 of 3 |",
             "turn | 8,192 | at most 0.34 × the time | 0.350 × (0.175 to 0.700) | no, in 1 of 3 |",
+            ": 33 files in turn | 1,000 | at most 3 × the time | 2.00 × (1.00 to 4.00) | yes, in 2 of 3 |",
             "`pjp_score_map` | 10 | at most 2,400 instructions | 2,450 instructions | no |",
             "`pjp_score_map` | 1,000 | at most 69,500 instructions | 61,850 instructions | yes |",
             "| 1,000 | at most 1.1 × the time | 1.20 × (1.20 to 1.20) | no, in none |",

@@ -13,6 +13,9 @@ pub const SIZES: [usize; 4] = [10, 100, 1_000, 8_192];
 /// How many edits, and plays of a kind, are made for a map.
 pub const VARIED: usize = 1_024;
 
+/// As many plays as a heat may have.
+pub const HEAT_PLAYS: usize = popejoanplum::HEAT_PLAYS;
+
 /// How many of the last objects the plays that pass nearly all leave out at most.
 const NEARLY: usize = 64;
 
@@ -25,6 +28,12 @@ pub struct Edit {
 pub struct Broken {
     pub play: Play,
     pub factors: Factors,
+}
+
+/// A map and the plays of a heat on it.
+pub struct Heat {
+    pub map: MapFile,
+    pub plays: Vec<Play>,
 }
 
 /// A map of mixed objects with what is done to it.
@@ -90,6 +99,33 @@ fn different_map(r: &mut Random, size: usize) -> MapFile {
     map.objects = (0..size).map(|place| object(r, place)).collect();
     map.plays = vec![play(r, size, combos(&map)[size])];
     map
+}
+
+/// The heats of plays that passed the whole map.
+pub const WHOLE_HEATS: &str = "all objects";
+
+/// Different maps of a size, each with a heat of plays that passed all objects.
+pub fn whole_heats(size: usize) -> Vec<Heat> {
+    heats(size, |_, size| size)
+}
+
+/// The same with passed counts all over the map.
+pub fn spread_heats(size: usize) -> Vec<Heat> {
+    heats(size, |r, size| r.between(1, size as u64) as usize)
+}
+
+fn heats(size: usize, passed: fn(&mut Random, usize) -> usize) -> Vec<Heat> {
+    let r = &mut Random::new(7, size as u64);
+    let heat = |map: MapFile| {
+        let combos = combos(&map);
+        let play = |_| {
+            let passed = passed(r, size);
+            play(r, passed, combos[passed])
+        };
+        let plays = (0..HEAT_PLAYS).map(play).collect();
+        Heat { map, plays }
+    };
+    different_maps(size).into_iter().map(heat).collect()
 }
 
 /// Another object at any place.
@@ -211,6 +247,12 @@ impl Turns {
         }
     }
 
+    /// The same without the first items, fewer than there are.
+    pub fn skip(self, items: usize) -> Self {
+        assert!(items < self.order.len(), "an item is next");
+        Self { at: items, ..self }
+    }
+
     #[inline]
     pub fn next(&mut self) -> usize {
         let item = self.order[self.at];
@@ -302,6 +344,26 @@ mod tests {
     use std::collections::HashSet;
 
     use super::*;
+
+    #[test]
+    fn the_plays_of_a_heat_passed_what_they_should() {
+        let heats = whole_heats(1_000);
+        assert_eq!(heats.len(), 33);
+        let is_whole = |heat: &Heat| heat.plays.iter().all(|play| play.passed == 1_000);
+        assert!(heats.iter().all(is_whole));
+        let counts = |heat: &Heat| {
+            let counts: HashSet<u16> = heat.plays.iter().map(|play| play.passed).collect();
+            assert!(counts.iter().all(|count| (1..=1_000).contains(count)));
+            counts.len()
+        };
+        assert!(spread_heats(1_000).iter().all(|heat| counts(heat) > 50));
+    }
+
+    #[test]
+    fn turns_go_on_behind_those_that_are_left_out() {
+        let mut turns = Turns::in_order(3).skip(2);
+        assert_eq!([(); 4].map(|()| turns.next()), [2, 0, 1, 2]);
+    }
 
     #[test]
     fn the_plays_of_a_file_passed_what_they_should() {

@@ -8,8 +8,10 @@ use oracle::{
     values::{Estimates, Original},
 };
 
+use popejoanplum::sys;
+
 use crate::{
-    cases::{Broken, Case, Edit, VARIED},
+    cases::{Broken, Case, Edit, HEAT_PLAYS, VARIED},
     lent::Lent,
     plain,
     proved::{self, GOOD},
@@ -29,6 +31,10 @@ pub struct Counts {
     pub with_factors: f64,
     /// Of the file with its play that passes all objects.
     pub score_map: f64,
+    /// Of one play that passes all objects, of a heat of such plays, and of one with spread passed counts.
+    pub score_play: f64,
+    pub heat: f64,
+    pub spread_heat: f64,
 }
 
 /// What is counted: its name as a subcommand, the function in which callgrind counts, and how many calls are made.
@@ -46,6 +52,9 @@ const WALK: Counted = Counted::new("walk", "bench_walk", 4);
 const ALONE: Counted = Counted::new("read-alone", "pjp_read", VARIED);
 const WITH_FACTORS: Counted = Counted::new("read-breaks", "pjp_read_breaks", VARIED);
 const SCORE_MAP: Counted = Counted::new("score-map", "pjp_score_map", 4);
+const SCORE_PLAY: Counted = Counted::new("score-play", "pjp_score_play", 4);
+const HEAT: Counted = Counted::new("heat", "pjp_heat", 1);
+const SPREAD_HEAT: Counted = Counted::new("heat-spread", "pjp_heat", 1);
 
 impl Counted {
     const fn new(name: &'static str, function: &'static str, calls: usize) -> Self {
@@ -93,6 +102,9 @@ pub fn measure(size: usize) -> Result<Counts, String> {
         alone: ALONE.count(size)?,
         with_factors: WITH_FACTORS.count(size)?,
         score_map: SCORE_MAP.count(size)?,
+        score_play: SCORE_PLAY.count(size)?,
+        heat: HEAT.count(size)?,
+        spread_heat: SPREAD_HEAT.count(size)?,
     })
 }
 
@@ -102,7 +114,8 @@ pub fn run(name: &str, size: usize) -> Result<(), String> {
     let case = &Case::new(size);
     let board = &mut Lent::new(size);
     let settings = proved::settings(&case.map.settings);
-    let mut good = board.build(&encode(&case.edited)) == GOOD;
+    let file = &encode(&case.edited);
+    let mut good = board.build(file) == GOOD;
     let (mut plays, mut edits) = (case.spread.iter(), case.edits.iter());
     let is = |counted: Counted| name == counted.name;
     if is(READ) {
@@ -128,10 +141,25 @@ pub fn run(name: &str, size: usize) -> Result<(), String> {
         }
     } else if is(SCORE_MAP) {
         good &= (0..SCORE_MAP.calls).all(|_| proved::score_map(&case.file).status == 0);
+    } else if is(SCORE_PLAY) {
+        let mut plays = case.all_passed.iter().take(SCORE_PLAY.calls);
+        good &= plays.all(|play| proved::score_play(file, proved::play(play)).status == 0);
+    } else if is(HEAT) {
+        good &= one_heat(file, &case.all_passed);
+    } else if is(SPREAD_HEAT) {
+        good &= one_heat(file, &case.spread);
     } else {
         return Err(format!("nothing is counted as {name}"));
     }
     good.then_some(()).ok_or("a call was refused".to_owned())
+}
+
+/// A heat of the first plays, and whether it and each of them is good.
+fn one_heat(file: &[u8], plays: &[Play]) -> bool {
+    let plays: Vec<sys::Play> = plays.iter().take(HEAT_PLAYS).map(proved::play).collect();
+    let mut outcomes = [sys::PlayAnswer::default(); HEAT_PLAYS];
+    let status = proved::heat(file, &plays, &mut outcomes);
+    status == GOOD && outcomes.iter().all(|outcome| outcome.status == 0)
 }
 
 // Functions with names that callgrind can be told. What they give is taken whole, so that none of it is left out.
@@ -177,6 +205,9 @@ mod tests {
             ALONE,
             WITH_FACTORS,
             SCORE_MAP,
+            SCORE_PLAY,
+            HEAT,
+            SPREAD_HEAT,
         ] {
             assert_eq!(run(counted.name, 10), Ok(()));
         }

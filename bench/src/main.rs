@@ -12,6 +12,7 @@ mod asked;
 mod boards;
 mod cases;
 mod figure;
+mod heats;
 mod instructions;
 mod lent;
 mod machine;

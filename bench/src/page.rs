@@ -1,6 +1,6 @@
 //! The page of results.
 
-use crate::{asked, machine, machine::Machine, measure::Series, results::Results, table};
+use crate::{asked, cases, machine, machine::Machine, measure::Series, results::Results, table};
 
 /// Other processes take fewer cores than this while a series runs that is kept.
 const QUIET: f64 = 0.1;
@@ -20,6 +20,8 @@ pub fn page(results: &Results, series: Series, machine: &Machine, taken: Option<
         few = series.few.count(),
         asked = asked::asked(results, &machine.processor),
         scores = table::scores(results),
+        heat_plays = cases::HEAT_PLAYS,
+        heats = table::heats(results),
         boards = table::boards(results),
         factor_reads = table::factor_reads(results),
         files = table::files(results),
@@ -28,6 +30,7 @@ pub fn page(results: &Results, series: Series, machine: &Machine, taken: Option<
         counts = table::counts(&results.counts),
         factor_counts = table::factor_counts(&results.counts),
         file_counts = table::file_counts(&results.counts),
+        heat_counts = table::heat_counts(&results.counts),
     )
 }
 

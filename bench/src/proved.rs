@@ -27,6 +27,23 @@ pub fn score_play_at(file: &[u8], index: u64) -> PlayAnswer {
     unsafe { sys::pjp_score_play_at(file.as_ptr(), file.len(), index) }
 }
 
+pub fn score_play(file: &[u8], play: sys::Play) -> PlayAnswer {
+    unsafe { sys::pjp_score_play(file.as_ptr(), file.len(), play) }
+}
+
+pub fn heat(file: &[u8], plays: &[sys::Play], outcomes: &mut [PlayAnswer]) -> Status {
+    unsafe {
+        sys::pjp_heat(
+            file.as_ptr(),
+            file.len(),
+            plays.as_ptr(),
+            plays.len(),
+            outcomes.as_mut_ptr(),
+            outcomes.len(),
+        )
+    }
+}
+
 pub fn build(file: &[u8], board: &mut [u64], starts: &mut [f64]) -> Status {
     unsafe {
         sys::pjp_build(

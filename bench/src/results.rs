@@ -4,6 +4,7 @@ use crate::{
     boards::{self, BoardTimes},
     cases::{self, Case, SIZES},
     figure::Figure,
+    heats::{self, HeatTimes, Heats},
     instructions::{self, Counts},
     measure::Series,
     own_plays::{self, OwnPlays, OwnTimes},
@@ -23,6 +24,7 @@ pub struct Round {
     pub scores: Vec<ScoreTimes>,
     /// Of different files at each size.
     pub different: Vec<ScoreTimes>,
+    pub heats: Vec<HeatTimes>,
     pub boards: Vec<BoardTimes>,
     pub readings: Vec<ReadingTimes>,
     pub own_plays: Vec<OwnTimes>,
@@ -60,16 +62,16 @@ impl Results {
 
 /// Instructions are counted at each of the sizes that are named.
 pub fn measure(series: Series, counted: &[usize]) -> Results {
-    let own_plays = own_plays::files();
+    let (heats, own_plays) = (heats::heats(), own_plays::files());
     Results {
         rounds: (0..series.rounds)
-            .map(|_| round(series, &own_plays))
+            .map(|_| round(series, &heats, &own_plays))
             .collect(),
         counts: counted.iter().copied().map(instructions::measure).collect(),
     }
 }
 
-fn round(series: Series, own_plays: &[OwnPlays]) -> Round {
+fn round(series: Series, heats: &[Heats], own_plays: &[OwnPlays]) -> Round {
     let samples = series.samples;
     let mut scores = Vec::new();
     let mut different = Vec::new();
@@ -84,6 +86,7 @@ fn round(series: Series, own_plays: &[OwnPlays]) -> Round {
     Round {
         scores,
         different,
+        heats: heats.iter().map(|heats| heats.measure(series)).collect(),
         boards,
         readings: files
             .iter()
@@ -106,6 +109,9 @@ pub fn example() -> Results {
         alone: 1_800.0,
         with_factors: 2_000.0,
         score_map: 1_850.0 + 60.0 * size as f64,
+        score_play: 2_000.0 + 60.0 * size as f64,
+        heat: 80_000.0 + 60.0 * size as f64,
+        spread_heat: 80_000.0 + 4_000.0 * size as f64,
     };
     Results {
         rounds: [0.5, 2.0, 1.0].map(example_round).into(),
@@ -162,10 +168,23 @@ fn example_round(times: f64) -> Round {
         score_map: score_map * times,
         build: build * times,
     };
+    let heat = |name, size: usize, heat| HeatTimes {
+        name,
+        size,
+        files: 33,
+        heat: heat * times,
+        calls: 6e5,
+        call: 1e4,
+    };
     let parts = SIZES.map(|size| (size, size as f64 / 8_192.0));
     Round {
         scores: parts.map(score(1, 55_555.5)).into(),
         different: parts.map(score(33, 70_000.0)).into(),
+        heats: vec![
+            heat(cases::WHOLE_HEATS, 1_000, 2e4),
+            heat(cases::WHOLE_HEATS, 8_192, 4e4),
+            heat("others", 1_000, 8e4),
+        ],
         boards: parts.map(board).into(),
         readings: vec![reading("circles", 6_000), reading(cases::LONG_SLIDERS, 283)],
         own_plays: vec![

@@ -2,6 +2,8 @@
 
 use crate::{
     boards::{BoardTimes, FactorTimes, Pair},
+    cases::HEAT_PLAYS,
+    heats::HeatTimes,
     instructions::Counts,
     number::{significant, time, whole},
     own_plays::OwnTimes,
@@ -52,6 +54,35 @@ pub fn scores(results: &Results) -> String {
             "ours, an object",
         ],
         one.into_iter().chain(different).map(row).collect(),
+    )
+}
+
+pub fn heats(results: &Results) -> String {
+    let row = |row: Row<HeatTimes>| {
+        vec![
+            row.any().name.to_owned(),
+            whole(row.any().size as u64),
+            whole(row.any().files as u64),
+            time(row.median(|times| times.heat)),
+            time(row.median(|times| times.calls)),
+            significant(row.median(|times| times.calls / times.heat)),
+            time(row.median(|times| times.call)),
+            significant(row.median(|times| times.heat / times.call)),
+        ]
+    };
+    markdown(
+        1,
+        &[
+            "each play passed",
+            "objects",
+            "files",
+            "the heat",
+            &format!("{HEAT_PLAYS} calls"),
+            "calls / heat",
+            "one call",
+            "heat / one call",
+        ],
+        rows(results.rows(|round| &round.heats), row),
     )
 }
 
@@ -264,6 +295,28 @@ pub fn file_counts(counts: &Result<Vec<Counts>, String>) -> String {
         ]
     };
     let head = ["objects", "`pjp_score_map`", "an object"];
+    counted(&head, counts, row)
+}
+
+pub fn heat_counts(counts: &Result<Vec<Counts>, String>) -> String {
+    let row = |row: &Counts| {
+        vec![
+            whole(row.size as u64),
+            significant(row.heat),
+            significant(row.spread_heat),
+            significant(row.score_play),
+            significant(row.heat / row.score_play),
+            significant(row.spread_heat / row.score_play),
+        ]
+    };
+    let head = [
+        "objects",
+        "heat, all passed",
+        "heat, spread",
+        "one call",
+        "all passed / one call",
+        "spread / one call",
+    ];
     counted(&head, counts, row)
 }
 

@@ -1,4 +1,5 @@
-/* Document 01's worked example on a board: built, read, edited, read again, and what is refused. expected.txt has what it prints. */
+/* Document 01's worked example on a board: built, read, edited, read again, and what is refused; then a heat on its file. expected.txt has what it
+ * prints. */
 #include "popejoanplum.h"
 #include <inttypes.h>
 #include <stdio.h>
@@ -96,6 +97,33 @@ static pjp_play one_miss(void) {
     return play;
 }
 
+/* A heat with a play in it that exceeds the map, and with an outcome more than it needs; then one with an outcome too few. */
+static void show_heat(void) {
+    enum { PLAYS = 3 };
+    pjp_play plays[PLAYS];
+    pjp_play_answer outcomes[PLAYS + 1], before[PLAYS + 1];
+    size_t length = (size_t)(end - file);
+    int i;
+    plays[0] = plays[1] = full_combo();
+    plays[1].max_combo = 8;
+    plays[2] = one_miss();
+    memset(outcomes, 0x5a, sizeof outcomes);
+    memset(before, 0x5a, sizeof before);
+    print_status("heat", pjp_heat(file, length, plays, PLAYS, outcomes, PLAYS + 1));
+    for (i = 0; i < PLAYS; i++) {
+        printf("  play %d: status %d, offset %zu", i, outcomes[i].status, outcomes[i].offset);
+        if (outcomes[i].status == PJP_GOOD)
+            printf(", objects %" PRIu64 ", accuracy %016" PRIx64 ", effective %016" PRIx64, outcomes[i].attributes.object_count,
+                   bits(outcomes[i].estimates.accuracy), bits(outcomes[i].estimates.effective));
+        printf("\n");
+    }
+    printf("  the outcome behind them is %s\n", memcmp(outcomes + PLAYS, before + PLAYS, sizeof *before) ? "changed" : "unchanged");
+
+    memset(outcomes, 0x5a, sizeof outcomes);
+    print_status("heat in two outcomes", pjp_heat(file, length, plays, PLAYS, outcomes, PLAYS - 1));
+    printf("  the outcomes are %s\n", memcmp(outcomes, before, sizeof before) ? "changed" : "unchanged");
+}
+
 int main(void) {
     static uint64_t board[WORDS], before[WORDS];
     static double starts[OBJECTS];
@@ -128,5 +156,6 @@ int main(void) {
     factors.speed = 10.5;
     print_breaks("origin 3, factor 10.5", pjp_score_play_breaks(file, (size_t)(end - file), play, factors));
     print_breaks("factor 10.5", pjp_score_play_breaks(file, (size_t)(end - file), full_combo(), factors));
+    show_heat();
     return 0;
 }

@@ -1,6 +1,7 @@
 /* lists SEED: long lists of calls on a board, as document 01's section on them has it. Beside the board the program keeps the map as records. After
  * each call all lent memory is held to a fresh build of the map's file, and each read, without factors and with them, to the score of its play on
- * that file: no other answers are needed, so that lists may be long and maps large. The first difference ends the run. */
+ * that file; at times a heat on that file is held to the scores of its plays. No other answers are needed, so that lists may be long and maps large.
+ * The first difference ends the run. */
 #include "popejoanplum.h"
 #include <inttypes.h>
 #include <math.h>
@@ -46,6 +47,7 @@ static double times[MAX_TIMES + 3]; /* the last but one begins a break too many,
 static object objects[PJP_MAX_OBJECTS];
 static memory board, fresh;
 static unsigned edits[256], reads[256], factor_reads[256], other_reads[256], broken; /* the last: reads whose play has slider breaks */
+static unsigned heats[256], heat_plays[256];
 
 static void hold(int is_so, const char *claim, size_t number) {
     if (is_so)
@@ -468,9 +470,51 @@ static void other_turn(unsigned sort) {
     other_reads[found]++;
 }
 
-/* ---- lists: of 8 turns 4 are edits that may be good */
+/* ---- heats on the map's file, with as many outcomes as plays or one more. The wrongs: a play too many, an outcome too few, either with a file whose
+ * last byte is missing. */
+enum { MANY_PLAYS, FEW_OUTCOMES, CUT_MANY, CUT_FEW, WRONGS, MAX_HEAT = PJP_HEAT_PLAYS + 2 };
+
+static uint8_t due_of_heat(unsigned wrong) {
+    if (wrong >= WRONGS)
+        return PJP_GOOD;
+    return wrong == CUT_MANY || wrong == CUT_FEW ? PJP_CUT : PJP_HEAT;
+}
+
+static void hold_outcomes(const pjp_play_answer *outcomes, const pjp_play *plays, size_t count, size_t length) {
+    size_t i;
+    for (i = 0; i < count; i++) {
+        hold(is_same(outcomes[i], pjp_score_play(file, length, plays[i])), "the outcome of a play of a heat is its score on the file, play", i);
+        heat_plays[outcomes[i].status]++;
+    }
+}
+
+static void heat_turn(unsigned wrong) {
+    static pjp_play plays[MAX_HEAT];
+    static pjp_play_answer outcomes[MAX_HEAT], before[MAX_HEAT];
+    size_t length = put_map(), count = 1 + below(PJP_HEAT_PLAYS), room = count + below(2), i;
+    pjp_status done;
+    if (wrong == MANY_PLAYS || wrong == CUT_MANY)
+        room = count = PJP_HEAT_PLAYS + 1;
+    if (wrong == FEW_OUTCOMES || wrong == CUT_FEW)
+        room = count - 1;
+    length -= wrong == CUT_MANY || wrong == CUT_FEW;
+    for (i = 0; i < count; i++)
+        plays[i] = draw_play();
+    memset(outcomes, 0x5a, sizeof outcomes);
+    memset(before, 0x5a, sizeof before);
+    done = pjp_heat(file, length, plays, count, outcomes, room);
+    hold(done.status == due_of_heat(wrong) && done.offset == pjp_score_map(file, length).offset, "a heat gets", due_of_heat(wrong));
+    count = done.status == PJP_GOOD ? count : 0;
+    hold_outcomes(outcomes, plays, count, length);
+    hold(!memcmp(outcomes + count, before + count, (MAX_HEAT - count) * sizeof *before), "outcomes stay, from", count);
+    heats[done.status]++;
+}
+
+/* ---- lists: of 8 turns 4 are edits that may be good; before each 16 stands a heat, and of 8 heats 4 are wrong */
 static void take_turn(void) {
     unsigned round = turn / 8;
+    if (turn % 16 == 0)
+        heat_turn(round / 2 % 8);
     switch (turn % 8) {
     case 2:
     case 6: read_turn(); break;
@@ -523,7 +567,7 @@ static void print_counts(const char *calls, const unsigned *counts, const uint8_
 int main(int argc, char **argv) {
     static const uint8_t OF_EDITS[] = {PJP_CUT, PJP_MARK, PJP_RANGE, PJP_NESTED, PJP_COUNT, PJP_BONUS, PJP_ROOM, PJP_PLACE, 0};
     static const uint8_t OF_READS[] = {PJP_PLAY_FIELD, PJP_PLAY_EXCEEDS, PJP_PLAY_COMBO, 0}, OF_OTHERS[] = {PJP_RANGE, PJP_COUNT, PJP_ROOM, 0};
-    static const uint8_t OF_FACTOR_READS[] = {PJP_PLAY_FIELD, PJP_PLAY_EXCEEDS, PJP_PLAY_COMBO, PJP_FACTOR, 0};
+    static const uint8_t OF_FACTOR_READS[] = {PJP_PLAY_FIELD, PJP_PLAY_EXCEEDS, PJP_PLAY_COMBO, PJP_FACTOR, 0}, OF_HEATS[] = {PJP_CUT, PJP_HEAT, 0};
     char *end = NULL;
     seed = argc == 2 ? strtoull(argv[1], &end, 10) : 0;
     if (!end || end == argv[1] || *end) {
@@ -539,5 +583,7 @@ int main(int argc, char **argv) {
     hold(broken > 0, "some plays have slider breaks, not", broken);
     printf("  slider breaks: in %u of them\n", broken);
     print_counts("reads of another map", other_reads, OF_OTHERS);
+    print_counts("heats", heats, OF_HEATS);
+    print_counts("plays of heats", heat_plays, OF_READS);
     return 0;
 }

@@ -7,7 +7,7 @@
  *
  * What a caller owes, as C cannot be held to it:
  *   - each pointer is valid for as many elements as the length behind it says; (NULL, 0) is fine;
- *   - a board, a start table and breaks are aligned to 8 bytes, as arrays of uint64_t and double are;
+ *   - a board, a start table, breaks, plays and outcomes are aligned to 8 bytes, as arrays of their types are;
  *   - no two of the slices of one call overlap;
  *   - nobody else writes to a slice during a call.
  * The functions keep no state and allocate nothing, so threads may call them at once on memory of their own.
@@ -43,6 +43,7 @@ extern "C" {
 #define PJP_PLACE 12        /* the edited place is not below the object count */
 #define PJP_BOARD 13        /* a word of the board or a start that the call reads is out of its limits: no build made them */
 #define PJP_FACTOR 14       /* a factor is not from 0 to 10, or not finite; only the two calls with factors */
+#define PJP_HEAT 15         /* a heat has more than PJP_HEAT_PLAYS plays, or fewer outcomes than plays */
 #define PJP_NO_PLAY 255     /* only pjp_score_play_at: the file is accepted and has no play at that index */
 
 /* ---- a play's origin */
@@ -65,10 +66,13 @@ extern "C" {
 #define PJP_MAX_BREAKS 128
 #define PJP_MAX_OBJECTS 8192
 
+/* ---- the most plays of a heat */
+#define PJP_HEAT_PLAYS 64
+
 /* What a call that writes answers. */
 typedef struct {
     uint8_t status; /* PJP_GOOD or the refusal */
-    size_t offset;  /* of the refused record's mark in the file; 0 for a missing header, for PJP_ROOM and for every refusal of an edit */
+    size_t offset;  /* of the refused record's mark in the file; 0 for a missing header, for PJP_ROOM, PJP_HEAT and every refusal of an edit */
 } pjp_status;
 
 /* The settings of a map, each from 0 to 12. */
@@ -178,7 +182,7 @@ size_t pjp_board_words(size_t count);
  * (PJP_PLAY_EXCEEDS, PJP_PLAY_COMBO) is checked by the calls below. */
 pjp_map_info pjp_read_map(const uint8_t *file, size_t length);
 
-/* The score of all objects of a map file. Refuses a file that breaks a rule, PJP_CUT to PJP_PLAY_COMBO, its plays included; so do the next four. */
+/* The score of all objects of a map file. Refuses a file that breaks a rule, PJP_CUT to PJP_PLAY_COMBO, its plays included; so do the next five. */
 pjp_map_answer pjp_score_map(const uint8_t *file, size_t length);
 
 /* The score of a play that is given beside a map file. Behind the whole file, with offset 0: PJP_PLAY_FIELD if a field of the play is out of range
@@ -190,6 +194,13 @@ pjp_breaks_answer pjp_score_play_breaks(const uint8_t *file, size_t length, pjp_
 
 /* The score of the play at an index of a map file, from 0 in the order of its PL records; PJP_NO_PLAY if it has fewer. */
 pjp_play_answer pjp_score_play_at(const uint8_t *file, size_t length, uint64_t index);
+
+/* The scores of a heat: of up to PJP_HEAT_PLAYS plays on the map of a file. For each i below `count` outcomes[i] gets what pjp_score_play
+ * gives for plays[i]. A refused play refuses no heat: its outcome has the number, offset 0 and no values, and the plays behind it are scored. `room` is
+ * how many outcomes are lent; those from `count` on stay as they were. Behind the whole file, with offset 0: PJP_HEAT if `count` is above
+ * PJP_HEAT_PLAYS or `room` below `count`. A refused heat writes nothing; one without plays is good and writes nothing. What stands between the fields of
+ * an outcome that is written is not said. */
+pjp_status pjp_heat(const uint8_t *file, size_t length, const pjp_play *plays, size_t count, pjp_play_answer *outcomes, size_t room);
 
 /* Writes the board and the start table of a map file. `words` is at least pjp_board_words(objects) and `numbers` at least the map's objects
  * (pjp_read_map tells them), else PJP_ROOM, which is checked behind the file. What lies behind these stays as it was. A refused build writes

@@ -1,7 +1,7 @@
-/* trace files|breaks|calls: answers a stream of map files, of plays with factors beside map files, or of lists of calls on a board, through the header,
- * as `oracle trace`, `oracle trace-breaks` and `oracle trace-calls` answer it from the Rust; oracle/src/breaks.rs and oracle/src/calls.rs have the
- * formats. `test` holds it to stored streams in ../../vectors, `.ci/compare` to fresh ones. So every function and every field meets values that this
- * engine did not make. */
+/* trace files|breaks|heats|calls: answers a stream of map files, of plays with factors beside map files, of heats, or of lists of calls on a board,
+ * through the header, as `oracle trace`, `oracle trace-breaks`, `oracle trace-heats` and `oracle trace-calls` answer it from the Rust;
+ * oracle/src/breaks.rs, oracle/src/heats.rs and oracle/src/calls.rs have the formats. `test` holds it to stored streams in ../../vectors,
+ * `.ci/compare` to fresh ones. So every function and every field meets values that this engine did not make. */
 #include "popejoanplum.h"
 #include <inttypes.h>
 #include <stdio.h>
@@ -250,6 +250,70 @@ static void trace_breaks(void) {
     }
 }
 
+/* ---- heats: plays beside the map file that is behind them. What they are lent is filled, and more behind it, to show what was not to be written. */
+enum { MAX_GIVEN = 512, MAX_LENT = 1024, MORE_LENT = 8 };
+static pjp_play plays[MAX_GIVEN];
+static pjp_play_answer outcomes[MAX_LENT + MORE_LENT];
+
+/* Of another byte in each place, so that an outcome that moved shows too. */
+static uint8_t filler(size_t place) {
+    return (uint8_t)(37 * place + 11);
+}
+
+static void fill_outcomes(void) {
+    size_t i;
+    for (i = 0; i < sizeof outcomes; i++)
+        ((uint8_t *)outcomes)[i] = filler(i);
+}
+
+static void hold_filled(size_t from) {
+    size_t i;
+    for (i = from * sizeof *outcomes; i < sizeof outcomes; i++)
+        hold(((const uint8_t *)outcomes)[i] == filler(i), "a refused heat writes nothing, any other nothing beyond its plays");
+}
+
+static void hold_outcome(const pjp_play_answer *outcome, const pjp_play_answer *alone) {
+    hold(outcome->status == alone->status && outcome->offset == alone->offset, "a play is refused alike in a heat and alone");
+    hold(same_attributes(&outcome->attributes, &alone->attributes) && same_estimates(outcome->estimates, alone->estimates),
+         "a play scores alike in a heat and alone");
+    hold_play(outcome);
+}
+
+/* Gives where the file begins. */
+static const uint8_t *take_plays(const uint8_t *at, uint32_t count) {
+    uint32_t i;
+    hold(count <= MAX_GIVEN && count <= (size_t)(frame + frame_length - at) / PLAY_RECORD, "a frame has all its plays");
+    for (i = 0; i < count; i++)
+        plays[i] = play_of(at + i * PLAY_RECORD);
+    return at + count * PLAY_RECORD;
+}
+
+static void trace_heat(void) {
+    const uint8_t *file = frame;
+    uint32_t lent, count, i;
+    size_t length;
+    pjp_status answer;
+    take(&file, &lent, 4);
+    take(&file, &count, 4);
+    hold(lent <= MAX_LENT, "outcomes have room");
+    file = take_plays(file, count);
+    length = (size_t)(frame + frame_length - file);
+    fill_outcomes();
+    answer = pjp_heat(file, length, count ? plays : NULL, count, lent ? outcomes : NULL, lent);
+    if (answer.status != PJP_GOOD) {
+        hold_filled(0);
+        print_refused(answer.status, answer.offset);
+        return;
+    }
+    hold_filled(count);
+    printf("heat %" PRIu32 "\n", count);
+    for (i = 0; i < count; i++) {
+        pjp_play_answer alone = pjp_score_play(file, length, plays[i]);
+        hold_outcome(outcomes + i, &alone);
+        print_play(i, outcomes + i);
+    }
+}
+
 /* ---- calls: a list starts with a build. What it is lent is filled, so that the digests show what was not to be written. */
 static uint64_t board[MAX_WORDS];
 static double starts[MAX_STARTS], times[MAX_TIMES];
@@ -368,10 +432,21 @@ static void trace_call(void) {
         read_board(frame + 1, kind == 2 || kind == 5, kind >= 5, index);
 }
 
+typedef void (*tracer)(void);
+
+static tracer tracer_of(const char *what) {
+    if (!strcmp(what, "files"))
+        return trace_file;
+    if (!strcmp(what, "breaks"))
+        return trace_breaks;
+    if (!strcmp(what, "heats"))
+        return trace_heat;
+    hold(!strcmp(what, "calls"), "the argument is files, breaks, heats or calls");
+    return trace_call;
+}
+
 int main(int argc, char **argv) {
-    const char *what = argc == 2 ? argv[1] : "";
-    void (*trace)(void) = !strcmp(what, "files") ? trace_file : !strcmp(what, "breaks") ? trace_breaks : trace_call;
-    hold(trace != trace_call || !strcmp(what, "calls"), "the argument is files, breaks or calls");
+    tracer trace = tracer_of(argc == 2 ? argv[1] : "");
     while (read_frame())
         trace();
     hold(!fflush(stdout) && !ferror(stdout), "the answers are written");

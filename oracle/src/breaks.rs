@@ -18,7 +18,7 @@
 //! ```
 
 use crate::{
-    encode,
+    encode::play_record,
     frame::take,
     given::{Factors, checked_play, lines},
     listing::{refusal_line, refused},
@@ -39,11 +39,9 @@ pub struct Given {
 
 impl Given {
     pub fn new(play: &Play, factors: Factors) -> Self {
-        let mut record = Vec::new();
-        encode::play(&mut record, play);
         Self {
             factors,
-            record: record.try_into().expect("the length of a play's record"),
+            record: play_record(play),
         }
     }
 

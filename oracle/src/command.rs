@@ -7,6 +7,7 @@ mod breaks;
 mod calls;
 mod example;
 mod generate;
+mod heats;
 mod list;
 mod replay;
 mod serve;
@@ -38,6 +39,8 @@ pub fn run(arguments: &[String]) -> Result<(), String> {
         ["gen-damaged", seed, count, to] => generate::damaged(number(seed)?, number(count)?, to),
         ["gen-breaks", seed, count, "-"] => breaks::generate(number(seed)?, number(count)?),
         ["trace-breaks"] => breaks::trace(),
+        ["gen-heats", seed, count, "-"] => heats::generate(number(seed)?, number(count)?),
+        ["trace-heats"] => heats::trace(),
         ["gen-calls", seed, count, "-"] => calls::generate(number(seed)?, number(count)?),
         ["trace-calls"] => calls::trace(),
         ["replay-rows", table, seed, count, path] => {

@@ -1,6 +1,9 @@
 //! Writes a map file's records. Ranges are not checked: damaged files come from here too.
 
-use crate::map::{Break, MapFile, Nested, Object, ObjectKind, Origin, Play, Settings};
+use crate::{
+    map::{Break, MapFile, Nested, Object, ObjectKind, Origin, Play, Settings},
+    reader::PLAY_RECORD,
+};
 
 pub fn encode(map: &MapFile) -> Vec<u8> {
     let mut out = Vec::new();
@@ -69,4 +72,11 @@ pub fn play(out: &mut Vec<u8>, play: &Play) {
     out.extend(play.score.unwrap_or(0).to_le_bytes());
     out.extend(play.flags.to_le_bytes());
     out.extend(play.clock_rate.to_le_bytes());
+}
+
+/// A play's record alone.
+pub fn play_record(play: &Play) -> [u8; PLAY_RECORD] {
+    let mut record = Vec::new();
+    self::play(&mut record, play);
+    record.try_into().expect("the length of a play's record")
 }

@@ -1,9 +1,11 @@
-//! Makes map files, plays with factors and lists of calls out of a seed. File `index` of a seed does not depend on the others.
+//! Makes map files, plays with factors, heats and lists of calls out of a seed. File `index` of a seed does not depend on the others.
 
 pub mod breaks;
 pub mod breaks_report;
 pub mod calls;
 pub mod damage;
+pub mod heats;
+pub mod heats_report;
 pub mod mixed;
 pub mod objects;
 pub mod plays;

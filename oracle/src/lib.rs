@@ -31,6 +31,7 @@ pub mod encode;
 pub mod frame;
 pub mod generate;
 pub mod given;
+pub mod heats;
 pub mod listing;
 pub mod map;
 pub mod reader;

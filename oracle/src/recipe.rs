@@ -82,9 +82,14 @@ pub enum Kind {
         play: [u8; PLAY_BODY],
         factors: [u64; 2],
     },
+    Heat {
+        plays: Vec<[u8; PLAY_BODY]>,
+        outcomes: u32,
+    },
 }
 
-/// A row of the table; `number` is 0 where no refusal is expected.
+/// A row of the table; `number` is 0 where no refusal is expected, as are those of `written` for plays
+/// that are scored.
 #[derive(Clone, Debug, PartialEq, Eq)]
 pub struct Row {
     pub name: String,
@@ -93,6 +98,8 @@ pub struct Row {
     pub file: Vec<u8>,
     pub number: u8,
     pub offset: u32,
+    /// The number in each outcome that a heat writes.
+    pub written: Vec<u8>,
 }
 
 /// Reads the whole table. An error names its line and says what is wrong there.
@@ -144,7 +151,7 @@ fn parse_row(line: &str, number: usize, definitions: &Definitions) -> Result<Row
     };
     let map = assemble(file, definitions)?;
     let kind = parse_kind(kind, &map, options, definitions)?;
-    let (refusal, offset) = parse_expected(expected)?;
+    let (refusal, offset, written) = parse_expected(expected)?;
     let row = Row {
         name: name.to_string(),
         line: number,
@@ -152,8 +159,10 @@ fn parse_row(line: &str, number: usize, definitions: &Definitions) -> Result<Row
         file: map.bytes,
         number: refusal,
         offset,
+        written,
     };
     check_offset(&row)?;
+    check_written(&row)?;
     Ok(row)
 }
 
@@ -171,31 +180,68 @@ fn parse_kind(
         ("edit", Some(options)) => edit(map, options, definitions),
         ("read", Some(options)) => read(map, options, definitions),
         ("score", Some(options)) => score(options, definitions),
-        ("build" | "edit" | "read" | "score", None) => {
+        ("heat", Some(options)) => heat(options, definitions),
+        ("build" | "edit" | "read" | "score" | "heat", None) => {
             Err(format!("a {kind} has arguments after a `;`"))
         }
         _ => Err(format!("unknown kind `{kind}`")),
     }
 }
 
-fn parse_expected(text: &str) -> Result<(u8, u32), String> {
+/// A number and its offset, and the numbers that a heat writes.
+fn parse_expected(text: &str) -> Result<(u8, u32, Vec<u8>), String> {
     if text == "ok" {
-        return Ok((0, 0));
+        return Ok((0, 0, Vec::new()));
+    }
+    if let Some(written) = text.strip_prefix("ok ") {
+        return Ok((0, 0, parse_written(written)?));
     }
     let Some((number, offset)) = text.split_once(" at ") else {
         return Err(format!("expected is `ok` or `N at OFFSET`, not `{text}`"));
     };
-    let number = whole(number)?;
-    if !(1..=14).contains(&number) {
+    Ok((refusal(number)?, narrow(whole(offset)?)?, Vec::new()))
+}
+
+fn refusal(text: &str) -> Result<u8, String> {
+    let number = whole(text)?;
+    if !(1..=15).contains(&number) {
         return Err(format!("{number} is no refusal's number"));
     }
-    Ok((number as u8, narrow(whole(offset)?)?))
+    Ok(number as u8)
+}
+
+/// Numbers of plays, 0 for a score.
+fn parse_written(text: &str) -> Result<Vec<u8>, String> {
+    let mut written = Vec::new();
+    for item in text.split(':') {
+        let (times, number) = repetition(item)?.unwrap_or((1, item));
+        let number = if number == "0" { 0 } else { refusal(number)? };
+        written.extend(std::iter::repeat_n(number, times));
+    }
+    Ok(written)
+}
+
+/// Each play of a good heat has a number, and nothing else has one.
+fn check_written(row: &Row) -> Result<(), String> {
+    let due = match &row.kind {
+        Kind::Heat { plays, .. } if row.number == 0 => plays.len(),
+        _ => 0,
+    };
+    if row.written.len() != due {
+        let given = row.written.len();
+        return Err(format!("{given} numbers of plays where {due} are due"));
+    }
+    Ok(())
 }
 
 /// Guards against a slip of the pen: a refusal points at a byte of its file, or at 0.
 fn check_offset(row: &Row) -> Result<(), String> {
     let end = match row.kind {
-        Kind::Program | Kind::File | Kind::Build { .. } | Kind::Score { .. } => row.file.len(),
+        Kind::Program
+        | Kind::File
+        | Kind::Build { .. }
+        | Kind::Score { .. }
+        | Kind::Heat { .. } => row.file.len(),
         Kind::Edit { .. } | Kind::Read { .. } => 0,
     };
     if row.offset != 0 && row.offset as usize >= end {
@@ -260,6 +306,13 @@ fn score(mut options: Options, definitions: &Definitions) -> Result<Kind, String
     Ok(Kind::Score { play, factors })
 }
 
+fn heat(mut options: Options, definitions: &Definitions) -> Result<Kind, String> {
+    let plays = parse_plays(options.need("plays")?, definitions)?;
+    let outcomes = options.need_number("outcomes")?;
+    options.finish()?;
+    Ok(Kind::Heat { plays, outcomes })
+}
+
 /// Lent sizes (by default what the map needs) and tampers of an edit or a read.
 fn parse_memory(map: &Recipe, options: &mut Options) -> Result<Memory, String> {
     let capacity = map.objects.max(1).next_power_of_two();
@@ -314,12 +367,18 @@ fn parse_factors(text: &str) -> Result<[u64; 2], String> {
 
 /// The body of one PL record in parentheses.
 fn parse_play(text: &str, definitions: &Definitions) -> Result<[u8; PLAY_BODY], String> {
+    match parse_plays(text, definitions)?[..] {
+        [play] => Ok(play),
+        _ => Err("play is one PL token".to_string()),
+    }
+}
+
+/// The bodies of PL records in parentheses.
+fn parse_plays(text: &str, definitions: &Definitions) -> Result<Vec<[u8; PLAY_BODY]>, String> {
+    let body = |record: &[u8]| record.strip_prefix(b"PL")?.try_into().ok();
     let bytes = assemble(inside(text)?, definitions)?.bytes;
-    let (Some(b"PL"), Some(body)) = (bytes.get(..2), bytes.get(2..)) else {
-        return Err("play is one PL token".to_string());
-    };
-    body.try_into()
-        .map_err(|_| "play is one PL token".to_string())
+    let plays: Option<Vec<_>> = bytes.chunks(2 + PLAY_BODY).map(body).collect();
+    plays.ok_or("a play is one PL token".to_string())
 }
 
 /// A read takes origin and score as cases, so only their valid values can be given.
@@ -999,6 +1058,24 @@ mod tests {
         assert_eq!((row.file.len(), row.offset), (23, 14));
     }
 
+    #[test]
+    fn plays_of_a_heat() {
+        let table = "a | heat | MH:5:5:5 ; plays=(PL:passed=1 2*PL:origin=3) outcomes=4 | ok 0:2*8";
+        let mut play = [0; 42];
+        (play[40], play[41]) = (0xf0, 0x3f);
+        let (mut first, mut second) = (play, play);
+        (first[0], second[26]) = (1, 3);
+        let row = only_row(table);
+        let plays = vec![first, second, second];
+        assert_eq!(row.kind, Kind::Heat { plays, outcomes: 4 });
+        assert_eq!((row.number, row.written), (0, vec![0, 8, 8]));
+        // The file may be broken, and no play is written.
+        let row = only_row("a | heat | CI:0 cut:1 ; plays=(-) outcomes=0 | 3 at 0");
+        let plays = vec![];
+        assert_eq!(row.kind, Kind::Heat { plays, outcomes: 0 });
+        assert_eq!((row.number, row.written), (3, vec![]));
+    }
+
     /// Each table is refused, and the reason says the given words.
     fn check_faults(cases: &[(&str, &str)]) {
         for (table, words) in cases {
@@ -1050,9 +1127,22 @@ mod tests {
     fn errors_of_expected() {
         check_faults(&[
             ("a | file | - | fine", "`ok` or"),
-            ("a | file | - | 15 at 0", "no refusal's number"),
+            ("a | file | - | 16 at 0", "no refusal's number"),
             ("a | file | - | 0 at 0", "no refusal's number"),
             ("a | file | hex:00 | 2 at 1", "not below 1"),
+            ("a | file | - | ok 0", "1 numbers of plays where 0"),
+            (
+                "a | heat | - ; plays=(PL PL) outcomes=2 | ok 0",
+                "1 numbers of plays where 2",
+            ),
+            (
+                "a | heat | - ; plays=(PL) outcomes=1 | ok",
+                "0 numbers of plays where 1",
+            ),
+            (
+                "a | heat | - ; plays=(PL) outcomes=1 | ok 16",
+                "no refusal's number",
+            ),
             (
                 "a | edit | MH:5:5:5 ; place=0 record=(-) | 3 at 1",
                 "not below 0",
@@ -1097,6 +1187,15 @@ mod tests {
                 "a | score | - ; play=(PL) factors=0:0 count=1 | ok",
                 "unknown argument",
             ),
+            ("a | heat | - | ok", "after a `;`"),
+            ("a | heat | - ; outcomes=0 | ok", "`plays=` is missing"),
+            ("a | heat | - ; plays=(-) | ok", "`outcomes=` is missing"),
+            ("a | heat | - ; plays=(CI:0) outcomes=1 | ok", "one PL"),
+            ("a | heat | - ; plays=(PL cut:1) outcomes=1 | ok", "one PL"),
+            (
+                "a | heat | - ; plays=(-) outcomes=0 play=(PL) | ok",
+                "unknown argument",
+            ),
         ]);
     }
 
@@ -1111,7 +1210,7 @@ mod tests {
             "{} rows of calls with arguments",
             rows.len() - files
         );
-        for number in 0..=14 {
+        for number in 0..=15 {
             assert!(
                 rows.iter().any(|row| row.number == number),
                 "no row gets {number}"

@@ -30,7 +30,7 @@ fn frame(bytes: &[u8]) -> Vec<u8> {
 
 #[test]
 fn bad_calls_end_with_status_2_and_one_line() {
-    let cases: [(&[&str], &[u8]); 20] = [
+    let cases: [(&[&str], &[u8]); 23] = [
         (&[], b""),
         (&["unknown"], b""),
         (&["list", "--other"], b""),
@@ -42,6 +42,9 @@ fn bad_calls_end_with_status_2_and_one_line() {
         (&["gen-breaks", "1", "2", "folder"], b""),
         (&["trace-breaks"], b"\x03\x00\x00\x00\x00\x00\x00"),
         (&["trace-breaks"], b"\x04\x00\x00\x00\x01\x00\x00\x00"),
+        (&["gen-heats", "1", "2", "folder"], b""),
+        (&["trace-heats"], b"\x07\x00\x00\x00\0\0\0\0\0\0\0"),
+        (&["trace-heats"], b"\x08\x00\x00\x00\0\0\0\0\x01\0\0\0"),
         (&["trace-calls"], b"\x01\x00\x00\x00\x05"),
         (&["trace-calls"], b"\x09\x00\x00\x00\x01\0\0\0\0\0\0\0\0"),
         (&["replay-rows", "/nowhere/table.txt", "1", "1", "-"], b""),

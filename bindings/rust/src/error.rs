@@ -18,13 +18,13 @@ pub struct Error {
 }
 
 impl Error {
-    /// The rule's number: 2 to 14, and 1 from [`listing`](crate::listing) alone.
+    /// The rule's number: 2 to 15, and 1 from [`listing`](crate::listing) alone.
     pub fn number(&self) -> u8 {
         self.number
     }
 
     /// The offset of the first byte of the record that breaks the rule. It is 0 for 1 and for 11 to
-    /// 14, for a missing header, and for all that is given beside a file: a play, an edit's object.
+    /// 15, for a missing header, and for all that is given beside a file: a play, an edit's object.
     pub fn offset(&self) -> usize {
         self.offset
     }
@@ -50,6 +50,7 @@ impl Error {
             12 => "the edited place is not below the object count",
             13 => "a word of the board or a start time is outside its limits",
             14 => "a slider factor is not finite or not from 0 to 10",
+            15 => "the heat has more than 64 plays, or fewer outcomes than plays",
             _ => "an unknown number",
         }
     }
@@ -92,8 +93,8 @@ mod tests {
     #[test]
     fn each_rule_has_its_words() {
         let refusal = |number| Error { number, offset: 24 };
-        let rules: HashSet<&str> = (1..=15).map(|number| refusal(number).rule()).collect();
-        assert_eq!(rules.len(), 15);
+        let rules: HashSet<&str> = (1..=16).map(|number| refusal(number).rule()).collect();
+        assert_eq!(rules.len(), 16);
         assert_eq!(
             refusal(12).to_string(),
             "refused 12 at 24: the edited place is not below the object count"

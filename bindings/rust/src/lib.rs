@@ -8,6 +8,7 @@
 //!
 //! - From the bytes of a map file: [`score_map`], [`score_play`], [`score_play_at`],
 //!   [`play_scores`], and [`read_map`]; the [`listing`] that the program `list` prints.
+//! - Up to 64 plays on the map of a file in one call: [`heat`], and [`heat_into`] in lent memory.
 //! - With two factors beside the play its slider breaks too: [`score_play_breaks`] and
 //!   [`Board::read_breaks`].
 //! - From data: [`Map`], its [`Object`]s, and [`MapFile`], a map with its plays.
@@ -24,6 +25,7 @@
 mod board;
 mod error;
 mod explain;
+mod heat;
 mod listing;
 mod map;
 mod play;
@@ -38,6 +40,7 @@ pub mod text;
 pub use board::Board;
 pub use error::Error;
 pub use explain::explain;
+pub use heat::{HEAT_PLAYS, heat, heat_into};
 pub use listing::{LISTING_LIMIT, listing, refusal_line};
 pub use map::{Break, Map, MapFile, Nested, Object, ObjectKind};
 pub use play::{Mods, Origin, Play};

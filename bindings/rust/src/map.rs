@@ -2,6 +2,7 @@
 
 use crate::{
     error::Error,
+    heat::heat,
     play::Play,
     record::{self, Record},
     score::{Score, score_map, score_play},
@@ -175,10 +176,15 @@ impl Map {
         score_map(&self.to_bytes())
     }
 
-    /// The score of a play. It writes and reads the whole map: for more than one play or for a map
-    /// under edit a [`Board`](crate::Board) is faster.
+    /// The score of a play. It writes and reads the whole map: for more than one play [`Self::heat`] or a
+    /// [`Board`](crate::Board) is faster, for a map under edit the board.
     pub fn score_play(&self, play: &Play) -> Result<Score, Error> {
         score_play(&self.to_bytes(), play)
+    }
+
+    /// The scores of up to 64 plays, as [`heat`] gives them. It writes the whole map once.
+    pub fn heat(&self, plays: &[Play]) -> Result<Vec<Result<Score, Error>>, Error> {
+        heat(&self.to_bytes(), plays)
     }
 
     /// The score of a play and its slider breaks by two factors. It too writes and reads the whole map.

@@ -7,7 +7,7 @@ use crate::{
 };
 
 /// What is estimated of a play.
-#[derive(Clone, Copy, Debug, PartialEq)]
+#[derive(Clone, Copy, Debug, Default, PartialEq)]
 pub struct Estimates {
     /// The judgements, and the slider hits as the origin counts them, over the most that they can be;
     /// 0 where that is 0.
@@ -21,8 +21,8 @@ pub struct Estimates {
     pub effective: f64,
 }
 
-/// The score of a play: the attributes of the passed objects, and the estimates.
-#[derive(Clone, Copy, Debug, PartialEq)]
+/// The score of a play: the attributes of the passed objects, and the estimates. The default is all 0.
+#[derive(Clone, Copy, Debug, Default, PartialEq)]
 pub struct Score {
     /// Of the passed objects.
     pub attributes: Attributes,

@@ -7,7 +7,7 @@
 //! slices that are valid through the call, aligned, and do not overlap; a length of 0 goes with any
 //! pointer. They keep no pointer, have no state, and may be called from any thread.
 //!
-//! A `status` is 0 where the call is good, else the number of the broken rule (2 to 14), and 255
+//! A `status` is 0 where the call is good, else the number of the broken rule (2 to 15), and 255
 //! only from [`pjp_score_play_at`] where an accepted file has no play at the index. Where it is not
 //! 0, `offset` is that of the record that breaks the rule, all other values are 0, and all lent
 //! memory is as it was.
@@ -139,7 +139,7 @@ pub struct MapAnswer {
 
 /// The score of a play.
 #[repr(C)]
-#[derive(Clone, Copy, Debug, PartialEq)]
+#[derive(Clone, Copy, Debug, Default, PartialEq)]
 pub struct PlayAnswer {
     pub status: u8,
     pub offset: usize,
@@ -181,6 +181,17 @@ unsafe extern "C" {
 
     /// The score of the play at an index of the file.
     pub fn pjp_score_play_at(file: *const u8, file_len: usize, index: u64) -> PlayAnswer;
+
+    /// Writes the score of each play of a heat to the outcome at its place. A refused play is such an
+    /// outcome, and refuses no heat.
+    pub fn pjp_heat(
+        file: *const u8,
+        file_len: usize,
+        plays: *const Play,
+        plays_len: usize,
+        outcomes: *mut PlayAnswer,
+        outcomes_len: usize,
+    ) -> Status;
 
     /// Writes the board and the start table of a file's map.
     pub fn pjp_build(

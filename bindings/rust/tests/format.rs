@@ -3,7 +3,7 @@
 use std::{fs, path::Path};
 
 use popejoanplum::{
-    Board, Error, Map, Play, SliderFactors, score_map,
+    Board, Error, HEAT_PLAYS, Map, Play, SliderFactors, score_map,
     sys::{self, Settings},
 };
 
@@ -174,7 +174,26 @@ fn refusals() {
     };
     let of_header: Vec<String> = defines.lines().map(define).collect();
     assert_eq!(of_page, of_header);
-    assert_eq!(rows.len(), 14);
+    assert_eq!(rows.len(), 15);
+}
+
+/// As many plays as the page says, and not one more.
+#[test]
+fn heats() {
+    let page = page();
+    let (_, section) = page.split_once("## A heat").unwrap();
+    let (_, rest) = section.split_once("up to ").unwrap();
+    let (most, _) = rest.split_once(" plays").unwrap();
+    let most = number(most) as usize;
+    assert_eq!(most, HEAT_PLAYS);
+    let of = |count| {
+        let refused = Map::default().heat(&vec![Play::default(); count]).err();
+        refused.map(|error| (error.number(), error.offset()))
+    };
+    assert_eq!((of(most), of(most + 1)), (None, Some((15, 0))));
+    let rows = table(&page, "## The refusals");
+    let row = rows.iter().find(|row| row[0] == "15").unwrap();
+    assert!(row[2].contains(&format!("more than {most} plays")));
 }
 
 /// Each factor's range, on a file and on a board; the negative zero is in it.

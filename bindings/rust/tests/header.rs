@@ -10,7 +10,7 @@ use std::{
     process::Command,
 };
 
-use popejoanplum::{Map, Mods, Origin, Play, SliderFactors, sys};
+use popejoanplum::{HEAT_PLAYS, Map, Mods, Origin, Play, SliderFactors, sys};
 
 /// A struct as lines of text: its size and alignment, then each field's name, offset, size and type.
 type Layouts = BTreeMap<String, Vec<String>>;
@@ -273,6 +273,8 @@ fn functions(structs: &BTreeMap<String, String>) -> Vec<(String, String, String)
         "*mut u64" => "uint64_t *".to_owned(),
         "*const f64" => "const double *".to_owned(),
         "*mut f64" => "double *".to_owned(),
+        "*const Play" => format!("const {} *", structs["play"]),
+        "*mut PlayAnswer" => format!("{} *", structs["playanswer"]),
         name => structs[&plain(name)].clone(),
     };
     let declared = block.split("fn pjp_").skip(1);
@@ -343,10 +345,15 @@ fn constants_are_the_header_s() {
         ("WITHOUT_SLIDER_ACC", origin(Origin::WithoutSliderAcc)),
     ];
     let origins = origins.map(|(name, number)| (name.to_owned(), number));
-    let refusals = [("FACTOR".to_owned(), factor_refusal())];
+    let others = [
+        ("FACTOR", factor_refusal()),
+        ("HEAT", heat_refusal()),
+        ("HEAT_PLAYS", HEAT_PLAYS as u16),
+    ];
+    let others = others.map(|(name, number)| (name.to_owned(), number));
     let mut text = String::from("#include <stdio.h>\nint main(void) {\n");
     let mut due = String::new();
-    for (name, number) in mods.iter().chain(&origins).chain(&refusals) {
+    for (name, number) in mods.iter().chain(&origins).chain(&others) {
         text += &format!("printf(\"%d\\n\", PJP_{name});\n");
         due += &format!("{number}\n");
     }
@@ -362,5 +369,11 @@ fn factor_refusal() -> u16 {
         speed: 0.0,
     };
     let given = Map::default().score_play_breaks(&Play::default(), &factors);
+    given.unwrap_err().number().into()
+}
+
+/// What the library answers to a heat of too many plays.
+fn heat_refusal() -> u16 {
+    let given = Map::default().heat(&[Play::default(); HEAT_PLAYS + 1]);
     given.unwrap_err().number().into()
 }

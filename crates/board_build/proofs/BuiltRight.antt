@@ -55,15 +55,15 @@ record FileGood (s : List ℕ) (m : Map) : Type 0 where
   map : MapIs s everyObject m
   same : scores .map ≡ map .file .map
 
-file-good : {s : List ℕ} {m : Map} {a : ScoreAttributes} → PlaysOf s (plays.Good m a) → FileGood s m
+file-good : {s : List ℕ} {m : Map} {a : ScoreAttributes} → PlaysOf s everyObject (plays.Good m a) → FileGood s m
 file-good (good·file k x e same attributes) = record { scores = x; is = e; map = k; same = same }
 
 module _ (s : List ℕ) (b : List ℕ) (ts : List Float) where
   -- a file's refusal stands
-  pub file-refused : {n at : ℕ} → PlaysOf s (plays.Refused n at) → (written.Refused n at, b, ts) ≡ built (scoresOf (fileOf s)) b ts
+  pub file-refused : {n at : ℕ} → PlaysOf s everyObject (plays.Refused n at) → (written.Refused n at, b, ts) ≡ built (scoresOf (fileOf s)) b ts
   file-refused (refuses e) = sym (ap (λ (x : Outcome Scores). built x b ts) e)
 
-  module _ {m : Map} {a : ScoreAttributes} (e : PlaysOf s (plays.Good m a)) where
+  module _ {m : Map} {a : ScoreAttributes} (e : PlaysOf s everyObject (plays.Good m a)) where
     abbrev k : FileGood s m
     k = file-good e
 

@@ -94,7 +94,7 @@ fn lay(file: &[u8], map: Map, board: &mut [u64], starts: &mut [f64], cap: usize)
 pub fn build(file: &[u8], board: &mut [u64], starts: &mut [f64]) -> Written
     ensures { λ r. ⌜ (r, now (board .exit), now (starts .exit)) ≡ built (scoresOf (fileOf (now (file .entry)))) (now (board .entry)) (now (starts .entry)) ⌝ }
 {
-    match check_plays(file) {
+    match check_plays(file, u64::MAX) {
         Plays::Refused { number, offset } => Written::Refused { number, offset },
         Plays::Good(map, _) => {
             let count = map.objects as usize;

@@ -8,12 +8,15 @@ use Rattle.estimates.specs.declared.calculator.Estimates.{Estimates}
 use Rattle.miss_calc.specs.declared.legacy_score_miss_calc.MissCount.{MissCount}
 use Rattle.miss_calc.specs.declared.legacy_score_miss_calc.MissCount.the-variants as misses
 use Rattle.play_score.specs.declared.PlayScore.{PlayScore}
+use Rattle.scoring.specs.Scores.{Outcome, Scores, givenPlayOf}
 use Rattle.scoring.specs.declared.score.MapScore.{MapScore}
 use Rattle.scoring.specs.declared.score.MapScore.the-variants as map·score
 use Rattle.play_score.specs.declared.GivenPlay.{GivenPlay}
 use Rattle.play_score.specs.declared.GivenPlay.the-variants as given
 use Rattle.scoring.specs.declared.score.ListedPlay.{ListedPlay}
 use Rattle.scoring.specs.declared.score.ListedPlay.the-variants as listed
+use Rattle.host.specs.Play.{playIn}
+use Rattle.host.specs.declared.play.HostPlay.{HostPlay}
 use Rattle.host.specs.declared.answer.HostAttributes.{HostAttributes}
 use Rattle.host.specs.declared.answer.HostEstimates.{HostEstimates}
 use Rattle.host.specs.declared.answer.MapAnswer.{MapAnswer}
@@ -98,6 +101,10 @@ playAnswerRefused number offset = record { status = number; offset = offset; att
 abbrev pub givenAnswerOf : GivenPlay → PlayAnswer
 givenAnswerOf (given.Score s) = playAnswerIn s
 givenAnswerOf (given.Refused number offset) = playAnswerRefused number offset
+
+-- "a single call without factors" (02, §2): a play that is given beside a file
+unfoldable pub singleOf : Outcome Scores → HostPlay → PlayAnswer
+singleOf x p = givenAnswerOf (givenPlayOf (playIn p) x)
 
 -- of a play in a file: 255, which is no number of document 01, where the file is accepted and has no play at the index
 abbrev pub listedAnswerOf : ListedPlay → PlayAnswer

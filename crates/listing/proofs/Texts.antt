@@ -18,7 +18,7 @@ use Rattle.scoring.specs.Scores.{Outcome, refusal, values, Scores, scoresOf, ma
 use Rattle.scoring.specs.View.{PlaysOf, good}
 use Rattle.scoring.specs.declared.plays.Plays.the-variants as answer
 use Rattle.scoring.specs.declared.score.MapScore.the-variants as map·score
-use Rattle.scoring.proofs.Answers.{plays-refused, plays-map}
+use Rattle.scoring.proofs.Answers.{plays-refused, map-scored}
 use Rattle.listing.specs.Listing.{GoodFile, playsText, textOf, fileText, listedAt, listedOf}
 use Rattle.rules.proofs.Laws.{never}
 
@@ -29,19 +29,19 @@ map-text (values s) a e =
 
 -- all objects are passed
 module _ (s : List ℕ) where
-  pub text-refused : (n at : ℕ) → PlaysOf s (answer.Refused n at) → refusedLine n at ≡ fileText s
+  pub text-refused : (n at : ℕ) → PlaysOf s 18446744073709551615 (answer.Refused n at) → refusedLine n at ≡ fileText s
   unfolding fileText
   text-refused n at k = sym (ap textOf (plays-refused k))
 
-  module _ (m : Map) (a : ScoreAttributes) (k : PlaysOf s (answer.Good m a)) where
+  module _ (m : Map) (a : ScoreAttributes) (k : PlaysOf s 18446744073709551615 (answer.Good m a)) where
     pub text-good : mapLine a ++ playsText (scoresOf (fileOf s)) ≡ fileText s
     unfolding fileText
-    text-good = map-text (scoresOf (fileOf s)) a (plays-map m a k)
+    text-good = map-text (scoresOf (fileOf s)) a (map-scored m a k)
 
     pub file-good : GoodFile s m
     file-good = go k
       where
-        go : PlaysOf s (answer.Good m a) → GoodFile s m
+        go : PlaysOf s 18446744073709551615 (answer.Good m a) → GoodFile s m
         go (good map scores e same attributes) = record { p = 18446744073709551615; map = map; scores = scores; good = e }
 
 -- the place behind a text is within the space

@@ -64,7 +64,7 @@ fn put_file(s: &[u8], space: &mut [u8]) -> usize
     ensures { λ r. ⌜ r ≡ behind (now (space .entry)) 0 (fileText (now (s .entry))) ⌝ }
     ensures { λ _. ⌜ now (space .exit) ≡ putAt (now (space .entry)) 0 (fileText (now (s .entry))) ⌝ }
 {
-    match check_plays(s) {
+    match check_plays(s, u64::MAX) {
         Plays::Refused { number, offset } => {
             put_refused_line(space, 0, number as u64, offset as u64)
         }

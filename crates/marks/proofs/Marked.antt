@@ -39,7 +39,7 @@ use Rattle.marks.specs.declared.Marks.{Marks}
 few-marks : (objects i : ℕ) → i * strideOf objects ≤ objects → i < 128
 few-marks objects i h = lt-of-mul-lt-mul-right (strideOf objects) {m = i} {n = 128} (omega (arith, h))
 
-pub mark-stands : (objects : ℕ) (q : Play) → markBefore objects q * strideOf objects ≤ passedOf objects q
+mark-stands : (objects : ℕ) (q : Play) → markBefore objects q * strideOf objects ≤ passedOf objects q
 mark-stands objects q = div-mul-le-self (passedOf objects q) (strideOf objects)
 
 pub mark-few : (objects : ℕ) (q : Play) → markBefore objects q < 128

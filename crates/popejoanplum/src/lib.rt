@@ -1,10 +1,14 @@
-// The engine for hosts in C and Rust: numbers, slices and #[repr(C)] structs by value. No function asks anything of its caller but valid slices
-// that do not overlap.
+// The engine for hosts in C and Rust: numbers and #[repr(C)] structs by value, and slices of them. No function asks anything of its caller but valid
+// slices that do not overlap.
 
 use board::edit::edit;
 use board::read::read;
 use board_build::build;
 use entries::entry::Entry;
+use heat::due;
+use heat::heat_one;
+use heat::heat_start;
+use heat::heat_status;
 use host::answer::MapAnswer;
 use host::answer::PlayAnswer;
 use host::answer::given_answer_of;
@@ -41,9 +45,10 @@ ghost use Rattle.board.specs.Read.{readOf};
 ghost use Rattle.host.specs.Status.{boardWords, statusLeft};
 ghost use Rattle.host.specs.Map.{settingsIn, mapInfoOf};
 ghost use Rattle.host.specs.Play.{playIn};
-ghost use Rattle.host.specs.Answer.{mapAnswerOf, givenAnswerOf, listedAnswerOf};
+ghost use Rattle.host.specs.Answer.{mapAnswerOf, givenAnswerOf, singleOf, listedAnswerOf};
 ghost use Rattle.slider_breaks.specs.Given.{withBreaks};
 ghost use Rattle.host.specs.Breaks.{factorsIn, breaksAnswerOf};
+ghost use Rattle.heat.specs.Heat.{heatOf};
 
 // How many words a board for as many objects has; 0 where no map has as many.
 #[no_mangle]
@@ -75,7 +80,7 @@ pub extern "C" fn pjp_score_map(file: &[u8]) -> MapAnswer
 // A play that is given beside the file.
 #[no_mangle]
 pub extern "C" fn pjp_score_play(file: &[u8], play: HostPlay) -> PlayAnswer
-    ensures { λ r. ⌜ r ≡ givenAnswerOf (givenPlayOf (playIn play) (scoresOf (fileOf (now (file .entry))))) ⌝ }
+    ensures { λ r. ⌜ r ≡ singleOf (scoresOf (fileOf (now (file .entry)))) play ⌝ }
 {
     given_answer_of(score_play(file, play_in(play)))
 }
@@ -91,6 +96,21 @@ pub extern "C" fn pjp_score_play_breaks(
 {
     let answer = pjp_score_play(file, play);
     answer_with(answer, added_by(play_in(play), factors_in(factors), answer))
+}
+
+// For each play what `pjp_score_play` answers, in their order. Outcomes beyond the last play stay, and all of them where the call is refused.
+#[no_mangle]
+pub extern "C" fn pjp_heat(file: &[u8], plays: &[HostPlay], outcomes: &mut [PlayAnswer]) -> Status
+    ensures { λ r. ⌜ (r, now (outcomes .exit)) ≡ heatOf (scoresOf (fileOf (now (file .entry)))) (now (plays .entry)) (now (outcomes .entry)) ⌝ }
+{
+    let start = heat_start(file, plays.len(), outcomes.len());
+    let n = due(start, plays.len());
+    let mut i = 0;
+    while i < n {
+        outcomes[i] = heat_one(file, start, plays[i]);
+        i += 1;
+    }
+    heat_status(start)
 }
 
 // The play at an index of the file.

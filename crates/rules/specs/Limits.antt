@@ -1,4 +1,4 @@
--- The limits of document 01, each under one name: its rules, the board's words and the code's bounds cite them.
+-- The limits of documents 01 and 02, each under one name: their rules, the board's words and the code's bounds cite them.
 use Prim.Native.Nat.{ℕ, _+_, _*_}
 
 -- "1: the program's input is above 65,536 bytes"
@@ -34,6 +34,10 @@ maxCombosBefore = 137438953472
 -- "C is the smallest power of two not below max(1, object count)": at most 2 ^ 13
 abbrev pub maxLevels : ℕ
 maxLevels = 13
+
+-- document 02, §2: "A heat has up to 64 plays on one map"
+abbrev pub maxPlays : ℕ
+maxPlays = 64
 
 -- ---- the bytes of a record, from its mark on; of a slider those before its nested items
 abbrev pub markSize : ℕ

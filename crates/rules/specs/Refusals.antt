@@ -85,3 +85,7 @@ BOARD = 13
 -- §1: "a factor out of range or not finite; checked last"
 abbrev pub FACTOR : ℕ
 FACTOR = 14
+
+-- §2: "more than 64 plays, or fewer outcomes than plays; after the map, before any play"
+abbrev pub HEAT : ℕ
+HEAT = 15

@@ -1,2 +1,2 @@
-// What every other crate cites of documents 01 and 02: the numbers of their rules, and document 01's limits, each under one name. No function.
+// What every other crate cites of documents 01 and 02: the numbers of their rules and their limits, each under one name. No function.
 pub mod refusal; // the numbers of the rules

@@ -26,3 +26,5 @@ pub const PLACE: u8 = 12;
 pub const BOARD: u8 = 13;
 
 pub const FACTOR: u8 = 14;
+
+pub const HEAT: u8 = 15;

@@ -16,14 +16,13 @@ use Rattle.map_reader.specs.declared.map.MapRead.the-variants as map·read
 use Rattle.play_reader.proofs.Playing.{map-same}
 use Rattle.map_reader.proofs.Passed.{attributes-passed}
 use Rattle.play_score.specs.PlayRules.{givenAnswer, givenScore}
-use Rattle.scoring.specs.Scores.{Outcome, refusal, values, then, Scores, playScores, scoresOf, passedScoreOf, mapScoreOf, givenPlayOf, playAt, listedPlayOf}
+use Rattle.scoring.specs.Scores.{Outcome, refusal, values, then, Scores, playScores, scoresOf, mapScoreOf, givenPlayOf, playAt, listedPlayOf}
 use Rattle.scoring.specs.View.{wantedOf, checkedOf, PlaysOf, good, refuses, listedBy}
 use Rattle.play_score.specs.declared.PlayScore.{PlayScore}
 use Rattle.scoring.specs.declared.plays.Wanted.{Wanted}
 use Rattle.scoring.specs.declared.plays.Checked.the-variants as checked
 use Rattle.scoring.specs.declared.plays.Plays.the-variants as answer
 use Rattle.scoring.specs.declared.score.MapScore.the-variants as map·score
-use Rattle.play_score.specs.declared.GivenPlay.the-variants as given
 use Rattle.scoring.proofs.Lists.{scores-none}
 use Rattle.rules.proofs.Laws.{never}
 
@@ -89,51 +88,24 @@ check-good {s = s} {p = p} {i = i} {m = m} {w = w} k e = go (scoresOf (fileOf s)
     go (refusal n at) h e = never (cc)
     go (values x) h e = let v = no-number s x h in record { map = k; scores = x; is = h; same = v .map ∙ map-same k (v .file) (v .read); wanted = cc }
 
-module _ {s : List ℕ} {p i : ℕ} {m : Map} {w : Wanted} (k : AllGood s p i m w) where
-  of-scores : (a : ScoreAttributes) → a ≡ scoreAttributesAt (k .map .file .map) p → a ≡ scoreAttributesAt (k .scores .map) p
-  of-scores a e = e ∙ ap (λ (n : MapData). scoreAttributesAt n p) (sym (k .same))
+pub listed-good : {s : List ℕ} {p i : ℕ} {m : Map} {w : Wanted} → AllGood s p i m w → listedBy w ≡ listedPlayOf i (scoresOf (fileOf s))
+listed-good {i = i} k = ap listedBy (k .wanted) ∙ wanted-listed (k .scores .plays) i ∙ sym (ap (listedPlayOf i) (k .is))
 
-  pub passed-good : (a : ScoreAttributes) → a ≡ scoreAttributesAt (k .map .file .map) p → map·score.Map a ≡ passedScoreOf p (scoresOf (fileOf s))
-  passed-good a e = ap map·score.Map (of-scores a e) ∙ sym (ap (passedScoreOf p) (k .is))
-
-  pub listed-good : listedBy w ≡ listedPlayOf i (scoresOf (fileOf s))
-  listed-good = ap listedBy (k .wanted) ∙ wanted-listed (k .scores .plays) i ∙ sym (ap (listedPlayOf i) (k .is))
-
-pub plays-good : {s : List ℕ} {m : Map} {w : Wanted} → AllGood s 18446744073709551615 0 m w → (a : ScoreAttributes)
-    → ((k : MapIs s 18446744073709551615 m) → a ≡ scoreAttributesAt (k .file .map) 18446744073709551615) → PlaysOf s (answer.Good m a)
-plays-good k a e = good (k .map) (k .scores) (k .is) (k .same) (of-scores k a (e (k .map)))
+pub plays-good : {s : List ℕ} {p i : ℕ} {m : Map} {w : Wanted} (k : AllGood s p i m w) (a : ScoreAttributes) → a ≡ scoreAttributesAt (k .map .file .map) p → PlaysOf s p (answer.Good m a)
+plays-good {p = p} k a e = good (k .map) (k .scores) (k .is) (k .same) (e ∙ ap (λ (n : MapData). scoreAttributesAt n p) (sym (k .same)))
 
 -- ---- the answers of the calls
-pub plays-refused : {s : List ℕ} {n at : ℕ} → PlaysOf s (answer.Refused n at) → scoresOf (fileOf s) ≡ refusal n at
+pub plays-refused : {s : List ℕ} {p n at : ℕ} → PlaysOf s p (answer.Refused n at) → scoresOf (fileOf s) ≡ refusal n at
 plays-refused (refuses e) = e
 
 -- 2 ^ 64 - 1 passed objects are all
-pub all-passed : (s : List ℕ) → passedScoreOf 18446744073709551615 (scoresOf (fileOf s)) ≡ mapScoreOf (scoresOf (fileOf s))
-all-passed s = go (scoresOf (fileOf s)) refl
-  where
-    go : (x : Outcome Scores) → scoresOf (fileOf s) ≡ x → passedScoreOf 18446744073709551615 x ≡ mapScoreOf x
-    go (refusal n at) e = refl
-    go (values x) e =
-        let few = values-within s x e .few-objects in
-        let n = length (x .map .objects) in
-        let all : min 18446744073709551615 n ≡ min n n = omega (arith, few) in
-        ap map·score.Map (attributes-passed (x .map) 18446744073709551615 n all)
-
-pub plays-map : {s : List ℕ} (m : Map) (a : ScoreAttributes) → PlaysOf s (answer.Good m a) → map·score.Map a ≡ mapScoreOf (scoresOf (fileOf s))
-plays-map {s = s} m a (good k x e same attributes) = ap map·score.Map attributes ∙ sym (ap (passedScoreOf 18446744073709551615) e) ∙ all-passed s
+pub map-scored : {s : List ℕ} (m : Map) (a : ScoreAttributes) → PlaysOf s 18446744073709551615 (answer.Good m a) → map·score.Map a ≡ mapScoreOf (scoresOf (fileOf s))
+map-scored {s = s} m a (good k x e same attributes) =
+    let few = values-within s x e .few-objects in
+    let n = length (x .map .objects) in
+    let all : min 18446744073709551615 n ≡ min n n = omega (arith, few) in
+    ap map·score.Map (attributes ∙ attributes-passed (x .map) 18446744073709551615 n all) ∙ sym (ap mapScoreOf e)
 
 -- a play on the attributes of the objects that it passed
-pub given-refused : (s : List ℕ) (q : Play) {n at : ℕ} → map·score.Refused n at ≡ passedScoreOf (q .«passed_objects») (scoresOf (fileOf s)) → given.Refused n at ≡ givenPlayOf q (scoresOf (fileOf s))
-given-refused s q {n = n} {at = at} e = go (scoresOf (fileOf s)) e
-  where
-    go : (x : Outcome Scores) → map·score.Refused n at ≡ passedScoreOf (q .«passed_objects») x → given.Refused n at ≡ givenPlayOf q x
-    go (refusal k o) e = let a : n ≡ k = cc in let b : at ≡ o = cc in rw (a, b)
-    go (values x) e = never (cc)
-
-pub given-scored : (s : List ℕ) (q : Play) {a : ScoreAttributes} → map·score.Map a ≡ passedScoreOf (q .«passed_objects») (scoresOf (fileOf s))
-    → givenAnswer (givenScore q a) ≡ givenPlayOf q (scoresOf (fileOf s))
-given-scored s q {a = a} e = go (scoresOf (fileOf s)) e
-  where
-    go : (x : Outcome Scores) → map·score.Map a ≡ passedScoreOf (q .«passed_objects») x → givenAnswer (givenScore q a) ≡ givenPlayOf q x
-    go (refusal k o) e = never (cc)
-    go (values x) e = let is : a ≡ scoreAttributesAt (x .map) (q .«passed_objects») = cc in ap (λ (b : ScoreAttributes). givenAnswer (givenScore q b)) is
+pub play-scored : {s : List ℕ} (m : Map) (a : ScoreAttributes) (q : Play) → PlaysOf s (q .«passed_objects») (answer.Good m a) → givenAnswer (givenScore q a) ≡ givenPlayOf q (scoresOf (fileOf s))
+play-scored m a q (good k x e same attributes) = ap (λ (b : ScoreAttributes). givenAnswer (givenScore q b)) attributes ∙ sym (ap (givenPlayOf q) e)

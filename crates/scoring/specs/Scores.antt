@@ -49,11 +49,6 @@ scoresOf (accepted f) = then (playScores (f .map) (f .plays)) (λ ss. values (re
 scoresOf (refusedAt n at f) = then (playScores (f .map) (f .plays)) (λ ss. refusal n at)
 
 -- ---- the answers of the calls, case by case
--- the attributes of the first p objects
-abbrev pub passedScoreOf : ℕ → Outcome Scores → MapScore
-passedScoreOf p (refusal n at) = map·score.Refused n at
-passedScoreOf p (values s) = map·score.Map (scoreAttributesAt (s .map) p)
-
 -- "the score of a map file": the attributes of all objects
 abbrev pub mapScoreOf : Outcome Scores → MapScore
 mapScoreOf (refusal n at) = map·score.Refused n at

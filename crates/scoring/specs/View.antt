@@ -70,11 +70,11 @@ checkedOf i (values x) = checked.Good (wantedOf i (x .plays))
 abbrev pub CheckedFrom : List ℕ → Map → ℕ → Wanted → Checked → Type 0
 CheckedFrom s m at w r = (i : ℕ) → Playing s m at w i → r ≡ checkedOf i (scoresOf (fileOf s))
 
--- the map too, with the attributes of all objects
-pub data PlaysOf (s : List ℕ) : Plays → Type 0 where
-  good : {m : Map} {a : ScoreAttributes} (k : MapIs s 18446744073709551615 m) (x : Scores) → scoresOf (fileOf s) ≡ values x → x .map ≡ k .file .map
-      → a ≡ scoreAttributesAt (x .map) 18446744073709551615 → PlaysOf s (plays.Good m a)
-  refuses : {n at : ℕ} → scoresOf (fileOf s) ≡ refusal n at → PlaysOf s (plays.Refused n at)
+-- the map too, with the attributes of its first p objects
+pub data PlaysOf (s : List ℕ) (p : ℕ) : Plays → Type 0 where
+  good : {m : Map} {a : ScoreAttributes} (k : MapIs s p m) (x : Scores) → scoresOf (fileOf s) ≡ values x → x .map ≡ k .file .map
+      → a ≡ scoreAttributesAt (x .map) p → PlaysOf s p (plays.Good m a)
+  refuses : {n at : ℕ} → scoresOf (fileOf s) ≡ refusal n at → PlaysOf s p (plays.Refused n at)
 
 -- the wanted play of a good file
 abbrev pub listedBy : Wanted → ListedPlay

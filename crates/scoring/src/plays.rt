@@ -26,7 +26,7 @@ pub enum Wanted {
     Is(PlayScore),
 }
 
-// Of a file whose plays are all good: its map, and the attributes of all objects.
+// Of a file whose plays are all good: its map, and the attributes of its first objects.
 pub enum Plays {
     Good(Map, ScoreAttributes),
     Refused { number: u8, offset: usize },
@@ -152,15 +152,15 @@ pub fn check_behind(s: &[u8], map: Map, a: ScoreAttributes, passed: u64, index: 
     Checked::Good(wanted)
 }
 
-// Reads a file to its end, each play checked in its place.
-pub fn check_plays(s: &[u8]) -> Plays
-    ensures { λ r. ⌜ PlaysOf (now (s .entry)) r ⌝ }
+// Reads a file to its end, each play checked in its place, for its map and the attributes of its first objects.
+pub fn check_plays(s: &[u8], passed: u64) -> Plays
+    ensures { λ r. ⌜ PlaysOf (now (s .entry)) passed r ⌝ }
 {
-    match read_passed(s, u64::MAX) {
+    match read_passed(s, passed) {
         MapRead::Refused { number, offset } => Plays::Refused { number, offset },
         MapRead::Map(map) => {
             let a = attributes_of(s, map);
-            match check_behind(s, map, a, u64::MAX, 0) {
+            match check_behind(s, map, a, passed, 0) {
                 Checked::Refused { number, offset } => Plays::Refused { number, offset },
                 Checked::Good(_) => Plays::Good(map, a),
             }

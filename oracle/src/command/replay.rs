@@ -21,9 +21,11 @@ pub fn write(table: &str, seed: u64, count: u64, path: &str) -> Result<(), Strin
         let kind = match row.kind {
             Kind::Program => 0,
             Kind::File => 1,
-            Kind::Build { .. } | Kind::Edit { .. } | Kind::Read { .. } | Kind::Score { .. } => {
-                continue;
-            }
+            Kind::Build { .. }
+            | Kind::Edit { .. }
+            | Kind::Read { .. }
+            | Kind::Score { .. }
+            | Kind::Heat { .. } => continue,
         };
         put_row(&mut out, kind, &due_text(&row), &row.file)?;
         refusals += 1;

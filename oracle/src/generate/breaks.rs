@@ -67,7 +67,7 @@ fn given(r: &mut Random, original: &Original, shape: Shape) -> Given {
 }
 
 /// Puts origin, score mark or score out of range, which no play of Rust's types is.
-fn spoil_record(r: &mut Random, record: &mut [u8]) {
+pub fn spoil_record(r: &mut Random, record: &mut [u8]) {
     let (place, byte) = r.pick(&[(28, 3), (28, 255), (29, 2), (29, 255), (30, 1), (33, 128)]);
     record[place] = byte;
     // A score is out of range where none is there.

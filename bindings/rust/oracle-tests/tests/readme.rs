@@ -4,11 +4,37 @@ use std::{fs, path::Path};
 
 use oracle::{
     listing::listing,
-    map::{Object, ObjectKind, Play},
+    map::{MapFile, Object, ObjectKind, Play},
     reader::{read_library, read_program},
     values::Original,
 };
+use oracle_tests::due_answer;
 use popejoanplum::text;
+
+/// What the example of a heat prints of the worked example, by the original and the second reader.
+fn heat_lines(map: &MapFile) -> String {
+    let original = Original::new(map);
+    let line = |(max_combo, n300, n100)| {
+        let play = Play {
+            passed: 3,
+            max_combo,
+            n300,
+            n100,
+            ..Play::default()
+        };
+        match due_answer(map, &original, &play) {
+            Ok(_) => {
+                let e = original.attributes(3).estimates(&play);
+                format!("accuracy {}, misses {}\n", e.accuracy, e.effective)
+            }
+            Err((number, offset)) => format!(
+                "refused {number} at {offset}: the play exceeds its map: too many judgements, too much combo \
+                 or too many slider hits\n"
+            ),
+        }
+    };
+    [(7, 3, 0), (8, 3, 0), (3, 2, 1)].map(line).concat()
+}
 
 /// The values that are shown are the original's, not only our own.
 #[test]
@@ -36,7 +62,8 @@ fn values_are_those_of_the_original() {
         score: Some(900),
         ..Play::default()
     };
-    let host_line = |map: &oracle::map::MapFile| {
+    shown(&heat_lines(&map));
+    let host_line = |map: &MapFile| {
         let attributes = Original::new(map).attributes(3);
         let misses = attributes.estimates(&play).effective;
         format!("bonus {}, misses {misses}\n", attributes.legacy_bonus)

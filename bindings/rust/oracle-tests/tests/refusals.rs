@@ -16,6 +16,9 @@ const WORD_MARK: u64 = 0xabad_1dea_abad_1dea;
 const START_MARK: f64 = -1_234_567.5;
 const MORE: usize = 8;
 
+/// An outcome of a heat in words. As words it is lent, so that each of its bytes can be held.
+const OUTCOME: usize = size_of::<PlayAnswer>() / size_of::<u64>();
+
 #[derive(Clone)]
 struct Memories {
     words: Vec<u64>,
@@ -178,6 +181,11 @@ fn call(row: &Row) -> (u8, usize) {
             let (play, factors) = (play_of(play), factors_of(factors));
             return number_with_factors(score_breaks(&row.file, play, factors));
         }
+        Kind::Heat { plays, outcomes } => {
+            let (answer, written) = heat(&row.file, plays, *outcomes as usize);
+            assert_eq!(written, row.written, "line {}, {}", row.line, row.name);
+            return answer;
+        }
         Kind::Build { words, starts } => Memories::marked(*words as usize, *starts as usize),
         Kind::Edit { memory, .. } | Kind::Read { memory, .. } => Memories::lent(&row.file, memory),
     };
@@ -206,13 +214,17 @@ fn board_of(row: &Row) -> Option<usize> {
     match row.kind {
         Kind::Build { .. } => Some(popejoanplum::read_map(&row.file).unwrap().objects),
         Kind::Edit { count, .. } => Some(count as usize),
-        Kind::Read { .. } | Kind::Program | Kind::File | Kind::Score { .. } => None,
+        Kind::Read { .. } | Kind::Program | Kind::File | Kind::Score { .. } | Kind::Heat { .. } => {
+            None
+        }
     }
 }
 
 fn answer(row: &Row, lent: &mut Memories) -> (u8, usize) {
     let Status { status, offset } = match &row.kind {
-        Kind::Program | Kind::File | Kind::Score { .. } => unreachable!("a call without a board"),
+        Kind::Program | Kind::File | Kind::Score { .. } | Kind::Heat { .. } => {
+            unreachable!("a call without a board")
+        }
         Kind::Build { .. } => lent.build(&row.file),
         Kind::Edit {
             count,
@@ -247,6 +259,38 @@ fn score_breaks(file: &[u8], play: Play, factors: SliderFactors) -> BreaksAnswer
     unsafe { sys::pjp_score_play_breaks(file.as_ptr(), file.len(), play, factors) }
 }
 
+/// The answer of a heat, and the number of each outcome that it may write; all others stay.
+fn heat(file: &[u8], plays: &[[u8; PLAY_BODY]], outcomes: usize) -> ((u8, usize), Vec<u8>) {
+    let plays: Vec<Play> = plays.iter().map(play_of).collect();
+    let mut lent = vec![WORD_MARK; OUTCOME * (outcomes + MORE)];
+    // SAFETY: as above; the words are as many as the outcomes need, and aligned as they are.
+    let Status { status, offset } = unsafe {
+        sys::pjp_heat(
+            file.as_ptr(),
+            file.len(),
+            plays.as_ptr(),
+            plays.len(),
+            lent.as_mut_ptr().cast(),
+            outcomes,
+        )
+    };
+    let count = if status == 0 { plays.len() } else { 0 };
+    let (written, others) = lent.split_at(OUTCOME * count);
+    let is_kept = others.iter().all(|&word| word == WORD_MARK);
+    assert!(is_kept, "a heat of {} changed lent memory", plays.len());
+    let written = written.chunks_exact(OUTCOME).map(outcome_number).collect();
+    ((status, offset), written)
+}
+
+fn outcome_number(words: &[u64]) -> u8 {
+    assert_eq!(words.len(), OUTCOME);
+    // SAFETY: an outcome has as many words, is aligned as they are, and any bits are one.
+    let (number, offset) =
+        number_without_factors(unsafe { words.as_ptr().cast::<PlayAnswer>().read() });
+    assert_eq!(offset, 0);
+    number
+}
+
 /// The number of an answer, and its offset. A refusal has no values.
 fn number_without_factors(answer: PlayAnswer) -> (u8, usize) {
     let is_zero =
@@ -274,7 +318,7 @@ fn rows() -> Vec<Row> {
 
 #[test]
 fn every_row_of_the_table() {
-    let mut met = [0_u32; 15];
+    let mut met = [0_u32; 16];
     for row in &rows() {
         let due = (row.number, row.offset as usize);
         assert_eq!(call(row), due, "line {}, {}", row.line, row.name);
@@ -283,15 +327,23 @@ fn every_row_of_the_table() {
     assert!(met.iter().all(|&rows| rows > 0), "{met:?}");
 }
 
+/// A play that no map refuses.
+fn any_play() -> [u8; PLAY_BODY] {
+    let mut play = [0; PLAY_BODY];
+    play[34..].copy_from_slice(&1.0_f64.to_le_bytes());
+    play
+}
+
 /// The call of a row of a file or a read, made with factors out of range.
 fn with_bad_factors(row: &Row) -> Option<Row> {
     let bad = [f64::NAN.to_bits(), 0];
     let mut row = row.clone();
     match &mut row.kind {
         Kind::File => {
-            let mut play = [0; PLAY_BODY];
-            play[34..].copy_from_slice(&1.0_f64.to_le_bytes());
-            row.kind = Kind::Score { play, factors: bad };
+            row.kind = Kind::Score {
+                play: any_play(),
+                factors: bad,
+            };
         }
         Kind::Read { factors, .. } => *factors = Some(bad),
         _ => return None,
@@ -311,6 +363,29 @@ fn factors_are_checked_last() {
             number => (number, row.offset as usize),
         };
         assert_eq!(call(&bad), due, "line {}, {}", row.line, row.name);
+    }
+}
+
+/// "After the map, before any play": each file keeps its number beside heats with too many plays, with
+/// too few outcomes and with neither; an accepted one gives 15, and then each play its own number.
+#[test]
+fn heats_are_checked_behind_the_file() {
+    let good = any_play();
+    let mut bad = good;
+    // Flags of 512.
+    bad[33] = 2;
+    for row in rows().iter().filter(|row| row.kind == Kind::File) {
+        let of = |plays: &[[u8; PLAY_BODY]], outcomes, number, written: &[u8]| {
+            let due = match row.number {
+                0 => ((number, 0), written.to_vec()),
+                number => ((number, row.offset as usize), vec![]),
+            };
+            assert_eq!(heat(&row.file, plays, outcomes), due, "{}", row.name);
+        };
+        of(&[good; 65], 65, 15, &[]);
+        of(&[bad, good], 1, 15, &[]);
+        of(&[bad, good, bad], 4, 0, &[8, 0, 8]);
+        of(&[], 1, 0, &[]);
     }
 }
 

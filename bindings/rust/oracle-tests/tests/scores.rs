@@ -12,8 +12,9 @@ use oracle_tests::{
     has_breaks, map_file, refused, score_bits,
 };
 use popejoanplum::{
-    Board, Error, Map, MapFile, Object, ObjectKind, Score, SliderFactors, listing, play_scores,
-    read_map, refusal_line, score_map, score_play, score_play_at, score_play_breaks,
+    Board, Error, HEAT_PLAYS, Map, MapFile, Object, ObjectKind, Score, SliderFactors, heat,
+    heat_into, listing, play_scores, read_map, refusal_line, score_map, score_play, score_play_at,
+    score_play_breaks,
 };
 
 /// Good files of a seed, with the oracle's map and its bytes.
@@ -102,6 +103,45 @@ fn scores_of_plays_beside_a_map() {
     }
 }
 
+/// Heats of each length, of the plays that the oracle gives beside a file, some of them more than once:
+/// the outcomes are those of the plays alone, refused ones among them, in both forms.
+#[test]
+fn heats_on_a_map() {
+    let mut met = [0_u32; 11];
+    for index in 0..1_000 {
+        let Frame { given, file } = breaks::frame(36, index);
+        let Ok(map) = read_library(&file) else {
+            continue;
+        };
+        let original = Original::new(&map);
+        let plays = given
+            .iter()
+            .filter_map(|given| read_play(&given.record).ok());
+        let mut plays: Vec<_> = plays.collect();
+        // A flag that is none, so that 8 is met too.
+        plays
+            .iter_mut()
+            .skip(2)
+            .step_by(5)
+            .for_each(|play| play.flags |= 512);
+        let length = index as usize % (HEAT_PLAYS + 1);
+        let plays = || plays.iter().cycle().take(length);
+        let due: Vec<_> = plays()
+            .map(|play| due_answer(&map, &original, play))
+            .collect();
+        let ours: Vec<_> = plays().map(oracle_tests::play).collect();
+        let given = heat(&file, &ours).expect("an accepted file");
+        assert_eq!(given.into_iter().map(answer).collect::<Vec<_>>(), due);
+        let mut lent = [Ok(Score::default()); HEAT_PLAYS];
+        heat_into(&file, &ours, &mut lent).expect("an accepted file");
+        assert_eq!(lent.map(answer)[..due.len()], due);
+        due.iter().for_each(|due| met[number(due)] += 1);
+    }
+    for number in [0, 8, 9, 10] {
+        assert!(met[number] > 10, "{met:?}");
+    }
+}
+
 /// With factors a play gets what it gets without them, then 14, then the original's breaks.
 #[test]
 fn slider_breaks_of_plays_beside_a_map() {
@@ -173,6 +213,10 @@ fn refusals_of_damaged_files() {
             score_play(&bytes, &given).unwrap_err(),
             score_play_breaks(&bytes, &given, &SliderFactors::default()).unwrap_err(),
             score_play_breaks(&bytes, &given, &wrong).unwrap_err(),
+            heat(&bytes, &[]).unwrap_err(),
+            heat(&bytes, &[given; HEAT_PLAYS]).unwrap_err(),
+            heat(&bytes, &[given; HEAT_PLAYS + 1]).unwrap_err(),
+            heat_into(&bytes, &[given], &mut []).unwrap_err(),
             score_play_at(&bytes, 0).unwrap_err(),
             score_play_at(&bytes, usize::MAX).unwrap_err(),
             Map::from_bytes(&bytes).unwrap_err(),

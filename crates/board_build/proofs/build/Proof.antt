@@ -32,7 +32,7 @@ lay-requires c κs =
     let good = asked .before .before .before .before in
     let checked = good .before .before in
     let args = checked .before .before .before .before .args in
-    build-lays (args .file .now) (args .board .now) (args .starts .now) (subst (PlaysOf (args .file .now)) (good .map .given .1) (checked .check-plays .ensures))
+    build-lays (args .file .now) (args .board .now) (args .starts .now) (subst (PlaysOf (args .file .now) 18446744073709551615) (good .map .given .1) (checked .check-plays .ensures))
     _ (so (sized .size .given .1) (asked .room-for .ensures))
 
 fill-requires : tie.Need-fill-requires
@@ -43,7 +43,7 @@ fill-requires c κs =
     let good = asked .before .before .before .before in
     let checked = good .before .before in
     let args = checked .before .before .before .before .args in
-    build-fills (args .file .now) (args .board .now) (args .starts .now) (subst (PlaysOf (args .file .now)) (good .map .given .1) (checked .check-plays .ensures))
+    build-fills (args .file .now) (args .board .now) (args .starts .now) (subst (PlaysOf (args .file .now) 18446744073709551615) (good .map .given .1) (checked .check-plays .ensures))
     _ (so (sized .size .given .1) (asked .room-for .ensures))
     _ _ (laid .lay .ensures)
 
@@ -51,7 +51,7 @@ returns : tie.Need-returns
 returns c =
     let checked = c .before .before .before in
     let args = checked .before .before .before .before .args in
-    file-refused (args .file .now) (args .board .now) (args .starts .now) (subst (PlaysOf (args .file .now)) (c .before .number .given .1) (checked .check-plays .ensures))
+    file-refused (args .file .now) (args .board .now) (args .starts .now) (subst (PlaysOf (args .file .now) 18446744073709551615) (c .before .number .given .1) (checked .check-plays .ensures))
 
 same-length : tie.Need-same-length
 same-length c = search needs
@@ -65,7 +65,7 @@ returns-2 c =
     let good = asked .before .before .before .before in
     let checked = good .before .before in
     let args = checked .before .before .before .before .args in
-    no-room (args .file .now) (args .board .now) (args .starts .now) (subst (PlaysOf (args .file .now)) (good .map .given .1) (checked .check-plays .ensures))
+    no-room (args .file .now) (args .board .now) (args .starts .now) (subst (PlaysOf (args .file .now) 18446744073709551615) (good .map .given .1) (checked .check-plays .ensures))
     _ (so (c .before .number2 .given .1) (asked .room-for .ensures))
 
 same-length-3 : tie.Need-same-length-3
@@ -83,7 +83,7 @@ returns-3 c =
     let good = asked .before .before .before .before in
     let checked = good .before .before in
     let args = checked .before .before .before .before .args in
-    build-done (args .file .now) (args .board .now) (args .starts .now) (subst (PlaysOf (args .file .now)) (good .map .given .1) (checked .check-plays .ensures))
+    build-done (args .file .now) (args .board .now) (args .starts .now) (subst (PlaysOf (args .file .now) 18446744073709551615) (good .map .given .1) (checked .check-plays .ensures))
     _ (so (sized .size .given .1) (asked .room-for .ensures))
     _ _ (laid .lay .ensures)
     _ (all .fill .ensures)

@@ -37,7 +37,7 @@ put-plays-requires c κs =
     let line = c .before .before .before in
     let checked = line .before .before .before .before .before in
     let start = checked .before .before .before in
-    let answered = subst (PlaysOf (now (start .args .s))) (line .before .before .before .map .given .1) (checked .check-plays .ensures) in
+    let answered = subst (PlaysOf (now (start .args .s)) 18446744073709551615) (line .before .before .before .map .given .1) (checked .check-plays .ensures) in
     (file-good (now (start .args .s)) _ _ answered, put-inside _ _ _ (line .put-map-line .ensures))
 
 returns : tie.Need-returns
@@ -45,7 +45,7 @@ returns c =
     let line = c .before .before in
     let checked = line .before .before .before .before .before in
     let start = checked .before .before .before in
-    let answered = subst (PlaysOf (now (start .args .s))) (line .before .before .before .number .given .1) (checked .check-plays .ensures) in
+    let answered = subst (PlaysOf (now (start .args .s)) 18446744073709551615) (line .before .before .before .number .given .1) (checked .check-plays .ensures) in
     subst (λ (t : List ℕ). Puts (now (start .args .space)) 0 t (line .put-refused-line .last .0) (line .put-refused-line .result)) (text-refused (now (start .args .s)) _ _ answered) (line .put-refused-line .ensures)
 
 same-length : tie.Need-same-length
@@ -60,7 +60,7 @@ returns-2 c =
     let start = checked .before .before .before in
     let s = now (start .args .s) in
     let space = now (start .args .space) in
-    let answered = subst (PlaysOf s) (read .1) (checked .check-plays .ensures) in
+    let answered = subst (PlaysOf s 18446744073709551615) (read .1) (checked .check-plays .ensures) in
     let all = next (first space 0 _ (line .put-map-line .ensures)) (playsText (scoresOf (fileOf s))) (lines .put-plays .ensures) in
     let text = subst (λ (t : List ℕ). Written space 0 t (lines .put-plays .last .1 .1 .0) (lines .put-plays .result)) (text-good s _ _ answered) all in
     (text .place, text .space)

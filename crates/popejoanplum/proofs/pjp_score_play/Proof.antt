@@ -1,5 +1,6 @@
 -- What the call answers for the play that crossed.
 use borrow.Author.Needs.{needs}
+use Rattle.host.specs.Answer.{singleOf}
 use Rattle.popejoanplum.proofs.pjp_score_play.Statement.{statement}
 use Rattle.popejoanplum.proofs.pjp_score_play.Tie as tie
 
@@ -13,6 +14,7 @@ given-answer-of-requires : tie.Need-given-answer-of-requires
 given-answer-of-requires c κs = search needs
 
 returns : tie.Need-returns
+unfolding singleOf
 returns c = simp (c .given-answer-of .ensures, c .before .score-play .ensures, c .before .before .play-in .ensures)
 
 pub pjp-score-play-spec : {M : Type 1} → statement M

@@ -1,6 +1,7 @@
 -- What the call without factors answers, and what the factors that crossed make of it.
 use denote.Ref.{now}
 use borrow.Author.Needs.{needs}
+use Rattle.host.specs.Answer.{singleOf}
 use Rattle.host.specs.Breaks.{factorsIn}
 use Rattle.host.specs.Play.{playIn}
 use Rattle.host.proofs.BreaksAdded.{added-play}
@@ -23,6 +24,7 @@ answer-with-requires : tie.Need-answer-with-requires
 answer-with-requires c κs = search needs
 
 returns : tie.Need-returns
+unfolding singleOf
 returns c =
     let added = c .before in
     let played = added .before .before in

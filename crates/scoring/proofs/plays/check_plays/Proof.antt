@@ -23,12 +23,12 @@ enum-known-map c = search needs
 attributes-of-requires : tie.Need-attributes-of-requires
 attributes-of-requires c κs =
     let start = c .before .before .before .before .before in
-    complete (map-out (subst (MapReadOf (now (start .args .s)) 18446744073709551615) (c .before .map .given .1) (c .before .before .before .read-passed .ensures)))
+    complete (map-out (subst (MapReadOf (now (start .args .s)) (start .args .passed)) (c .before .map .given .1) (c .before .before .before .read-passed .ensures)))
 
 check-behind-requires : tie.Need-check-behind-requires
 check-behind-requires c κs =
     let start = c .before .before .before .before .before .before in
-    let k = map-out (subst (MapReadOf (now (start .args .s)) 18446744073709551615) (c .before .before .map .given .1) (c .before .before .before .before .read-passed .ensures)) in
+    let k = map-out (subst (MapReadOf (now (start .args .s)) (start .args .passed)) (c .before .before .map .given .1) (c .before .before .before .before .read-passed .ensures)) in
     record { map = k; attributes = c .attributes-of .ensures ∙ attributes-are k }
 
 enum-known-number-2 : tie.Need-enum-known-number-2
@@ -40,7 +40,7 @@ enum-told c = search needs
 returns : tie.Need-returns
 returns c =
     let start = c .before .before .before .before .before in
-    refuses (start-refused (subst (MapReadOf (now (start .args .s)) 18446744073709551615) (c .before .number .given .1) (c .before .before .before .read-passed .ensures)))
+    refuses (start-refused (subst (MapReadOf (now (start .args .s)) (start .args .passed)) (c .before .number .given .1) (c .before .before .before .read-passed .ensures)))
 
 returns-2 : tie.Need-returns-2
 returns-2 c =
@@ -52,9 +52,9 @@ returns-3 c =
     let checked = c .before .before in
     let read = checked .before .before .before .before .before in
     let start = read .before .before in
-    let k = map-out (subst (MapReadOf (now (start .args .s)) 18446744073709551615) (checked .before .before .before .map .given .1) (read .read-passed .ensures)) in
+    let k = map-out (subst (MapReadOf (now (start .args .s)) (start .args .passed)) (checked .before .before .before .map .given .1) (read .read-passed .ensures)) in
     let all = check-good k (so (c .enum-told .given .1) (checked .check-behind .ensures)) in
-    plays-good all _ (λ m. checked .before .attributes-of .ensures ∙ attributes-are m)
+    plays-good all _ (checked .before .attributes-of .ensures ∙ attributes-are (all .map))
 
 pub check-plays-spec : {M : Type 1} → statement M
 check-plays-spec =

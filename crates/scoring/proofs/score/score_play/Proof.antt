@@ -1,17 +1,18 @@
 -- The play is scored on the attributes of as many objects as it passed.
-use mathlib.Core.Path.{_∙_}
+use mathlib.Core.Path.{sym, ap, _∙_, subst}
 use denote.Ref.{now}
-use Rattle.rules.proofs.Laws.{so}
-use Rattle.scoring.proofs.Answers.{given-refused, given-scored}
+use Rattle.scoring.specs.Scores.{givenPlayOf}
+use Rattle.scoring.specs.View.{PlaysOf}
+use Rattle.scoring.proofs.Answers.{plays-refused, play-scored}
 use borrow.Author.Needs.{needs}
 use Rattle.scoring.proofs.score.score_play.Statement.{statement}
 use Rattle.scoring.proofs.score.score_play.Tie as tie
 
-cast-score-passed : tie.Need-cast-score-passed
-cast-score-passed c = search needs
+cast-check-plays : tie.Need-cast-check-plays
+cast-check-plays c = search needs
 
-score-passed-requires : tie.Need-score-passed-requires
-score-passed-requires c κs = search needs
+check-plays-requires : tie.Need-check-plays-requires
+check-plays-requires c κs = search needs
 
 enum-known-number : tie.Need-enum-known-number
 enum-known-number c = search needs
@@ -24,22 +25,23 @@ score-given-requires c κs = search needs
 
 returns : tie.Need-returns
 returns c =
-    let read = c .before .before .before in
-    let start = read .before .before .before in
-    given-refused (now (start .args .s)) (start .args .play) (so (c .before .number .given .1) (read .score-passed .ensures))
+    let checked = c .before .before .before in
+    let start = checked .before .before .before in
+    sym (ap (givenPlayOf (start .args .play)) (plays-refused (subst (PlaysOf (now (start .args .s)) (start .args .play .«passed_objects»)) (c .before .number .given .1) (checked .check-plays .ensures))))
 
 returns-2 : tie.Need-returns-2
 returns-2 c =
-    let read = c .before .before .before .before in
-    let start = read .before .before .before in
-    c .score-given .ensures ∙ given-scored (now (start .args .s)) (start .args .play) (so (c .before .before .a .given .1) (read .score-passed .ensures))
+    let checked = c .before .before .before .before in
+    let start = checked .before .before .before in
+    c .score-given .ensures
+    ∙ play-scored _ _ (start .args .play) (subst (PlaysOf (now (start .args .s)) (start .args .play .«passed_objects»)) (c .before .before .a .given .1) (checked .check-plays .ensures))
 
 pub score-play-spec : {M : Type 1} → statement M
 score-play-spec =
     tie.close
     (tie.spec
-    cast-score-passed
-    score-passed-requires
+    cast-check-plays
+    check-plays-requires
     enum-known-number
     enum-known-a
     score-given-requires

@@ -1,0 +1,5 @@
+pub mod Walk
+pub mod Held
+pub mod Front
+pub mod Loop
+pub mod Heats

@@ -19,6 +19,7 @@ use Rattle.encoding.specs.Limits.{MapWithin, HitsWithin}
 use Rattle.encoding.specs.Encoding.{mapFile}
 use Rattle.encoding.proofs.Accepted.{accepted-within}
 use Rattle.encoding.proofs.RoundTrip.{bare}
+use Rattle.ruleset.specs.Drain.{startOf, lastPlace}
 use Rattle.ruleset.specs.Stars.{multiplierAt}
 use Rattle.simulator.specs.Nested.{noObject, countedAll}
 use Rattle.simulator.specs.Walk.{comboPoints}
@@ -51,6 +52,7 @@ use Rattle.board.proofs.Numbers.{Numbered, read-numbered}
 use Rattle.demands.proofs.Refusals.{edit-numbered, BreaksNumbered, play-breaks-numbered, read-breaks-numbered, effective-of-a-play}
 use Rattle.demands.proofs.Files.{scoredPlays, plays-are-scored, RulesKept, only-when-kept, when-kept}
 use Rattle.demands.proofs.Exactness.{combo-points-exact, spinner-score-exact, ProductExact, product-exact, SumsFit, sums-fit}
+use Rattle.demands.proofs.DrainFits.{DrainFits, drain-fits}
 use Rattle.demands.proofs.Never10.{Never10, ten-is-gone}
 use Rattle.demands.proofs.BreaksRange.{breaks-of-a-play}
 use Rattle.demands.proofs.Maps.{within-scored, accepted-is-within, within-is-accepted, accepted-gets-none}
@@ -145,6 +147,10 @@ every-score-combo-product-is-exact = product-exact
 -- and no other sum of the source leaves its type: for every accepted map and passed count
 pub every-sum-fits-its-type : (m : Map) (p : ℕ) → AcceptedMap m → SumsFit (scoreAttributesAt m p)
 every-sum-fits-its-type = sums-fit
+
+pub every-drain-fits-its-type : (m : Map) (p : ℕ) → AcceptedMap m → 1 ≤ length (m .objects)
+    → DrainFits m (startOf (m .objects) (lastPlace (length (m .objects)) p))
+every-drain-fits-its-type = drain-fits
 
 -- ---- Demand 3
 -- "For every list of edits and reads that document 01 admits, refused calls included, on a board and start table built from an accepted map": the

@@ -10,7 +10,9 @@ use native.Mathlib.Omega.{arith}
 use borrow.Author.Tests.{ne-eqb}
 use lib.Dec.{eqb, lit<}
 use lib.Ieee.{Float, nan, neg, le, toUnsigned}
+use lib.IntN.{_-ℤ_}
 use lib.ListN.{length, take, drop, getD}
+use lib.Signed.{mag}
 use lib.Pow.{pow-mono, pow-pos}
 use Rattle.numbers.specs.Floats.{whole, _⊗_}
 use Rattle.numbers.proofs.Wholes.{whole-cut}
@@ -23,7 +25,9 @@ use Rattle.map_file.specs.File.{Map, fileOf}
 use Rattle.encoding.specs.Encoding.{objectBytes, mapFile}
 use Rattle.encoding.specs.Limits.{MapWithin, HitsWithin, PlaySized}
 use Rattle.encoding.proofs.RoundTrip.{bare}
+use Rattle.ruleset.specs.Drain.{lengthOf, breaksLength, startOf, lastPlace, drainAt}
 use Rattle.ruleset.specs.Stars.{multiplierAt}
+use Rattle.ruleset.proofs.Signs.{mag-quot}
 use Rattle.simulator.specs.Nested.{noObject, countedAll}
 use Rattle.simulator.specs.Walk.{comboPoints}
 use Rattle.simulator.specs.Attributes.{scoreAttributesAt}
@@ -69,7 +73,8 @@ use Rattle.board.proofs.Numbers.{Numbered, value, number}
 use Rattle.demands.proofs.Refusals.{BreaksNumbered, scored, numbered}
 use Rattle.demands.proofs.Files.{scoredPlays}
 use Rattle.demands.proofs.Boards.{Leads}
-use Rattle.demands.proofs.Demands.{every-listing-fits, refused-by-a-rule, refused-edit-by-a-rule, refused-read-by-a-rule, refused-play-breaks-by-a-rule, refused-read-breaks-by-a-rule, never-10, accepted-keeps-the-rules, keeping-the-rules-is-accepted, no-number-only-when-the-rules-are-kept, no-number-when-the-rules-are-kept, every-combo-product-is-exact, every-score-combo-product-is-exact, every-sum-fits-its-type, values-are-the-definition's, effective-misses-in-range, slider-breaks-in-range, every-list-of-calls, every-spinner-sum-is-exact, accepted-maps-are-within, accepted-map-gets-no-number, every-accepted-map-is-built, maps-within-are-accepted, left-by-every-list, changed-map-accepted, one-edit-leads, edit-touches-only, never-13-edit, never-13-read, never-13-read-breaks}
+use Rattle.demands.proofs.DrainFits.{DrainFits}
+use Rattle.demands.proofs.Demands.{every-listing-fits, refused-by-a-rule, refused-edit-by-a-rule, refused-read-by-a-rule, refused-play-breaks-by-a-rule, refused-read-breaks-by-a-rule, never-10, accepted-keeps-the-rules, keeping-the-rules-is-accepted, no-number-only-when-the-rules-are-kept, no-number-when-the-rules-are-kept, every-combo-product-is-exact, every-score-combo-product-is-exact, every-sum-fits-its-type, every-drain-fits-its-type, values-are-the-definition's, effective-misses-in-range, slider-breaks-in-range, every-list-of-calls, every-spinner-sum-is-exact, accepted-maps-are-within, accepted-map-gets-no-number, every-accepted-map-is-built, maps-within-are-accepted, left-by-every-list, changed-map-accepted, one-edit-leads, edit-touches-only, never-13-edit, never-13-read, never-13-read-breaks}
 
 -- ---- Demand 1
 -- no listing is cut
@@ -234,6 +239,21 @@ points-kept : (m : Map) (p : ℕ) → AcceptedMap m
 points-kept m p a =
     let fit = every-sum-fits-its-type m p a in
     (whole-cut 53 _ (omega (arith, fit .combo-points)) (fit .combo-points), omega (arith, fit .counts))
+
+-- so an i32 holds the drain, and what its first two breaks take off
+drain-kept : (m : Map) (p : ℕ) → AcceptedMap m → 1 ≤ length (m .objects)
+    → (mag (drainAt (m .breaks) (m .objects) p) ≤ 2 ^ 31) × (mag (breaksLength (startOf (m .objects) (lastPlace (length (m .objects)) p)) (take 2 (m .breaks))) < 2 ^ 31)
+unfolding drainAt
+drain-kept m p a some = (go (m .objects) (fit .without-breaks), fit .breaks 2)
+  where
+    fit : DrainFits m (startOf (m .objects) (lastPlace (length (m .objects)) p))
+    fit = every-drain-fits-its-type m p a some
+
+    go : (os : List Object)
+        → mag (lengthOf (startOf os 0) (startOf os (lastPlace (length os) p)) -ℤ breaksLength (startOf os (lastPlace (length os) p)) (m .breaks)) < 2 ^ 31
+        → mag (drainAt (m .breaks) os p) ≤ 2 ^ 31
+    go [] h = omega arith
+    go (o ∷ os) h = omega (arith, h, mag-quot (lengthOf (startOf (o ∷ os) 0) (startOf (o ∷ os) (lastPlace (length (o ∷ os)) p)) -ℤ breaksLength (startOf (o ∷ os) (lastPlace (length (o ∷ os)) p)) (m .breaks)))
 
 -- ---- Demand 3
 -- the file of an accepted map is scored as that map

@@ -18,7 +18,7 @@ use Rattle.play_state.specs.declared.LegacyTotalScore.the-variants.{Present}
 use Rattle.play_state.specs.declared.Play.{Play}
 use Rattle.simulator.specs.Nested.{spinnerScoreOf}
 use Rattle.simulator.specs.Attributes.{difficultyAttributesOf, scoreAttributesOf}
-use Rattle.play_score.specs.PlayRules.{modsBad, hitsExceed, exceeds, isDue, overCombo, playScore}
+use Rattle.play_score.specs.PlayRules.{modsBad, hitsExceed, exceeds, playScore}
 use Rattle.entries.specs.Entry.{total, entryOf, joined, inLimits}
 use Rattle.entries.specs.Words.{entryAt}
 use Rattle.entries.specs.Scores.{unsound}
@@ -169,7 +169,7 @@ unfolding edits editOf roomFor levelsOf levelsFrom objectIn objectOf circleOf sl
 edit-numbers = refl
 
 -- ---- reads: "then their arguments (.. a read its settings and breaks, starts and ends in turn, an odd count 4, then 8), then 13 and 7 entry by
--- entry as read, and a read at last 9 and 10"
+-- entry as read, and a read at last 9 ..": document 02, §3 took 10 away
 abbrev Read : Type 0
 Read = List ℕ × List Float × ℕ × Settings × List Float × Play × ℕ
 
@@ -185,7 +185,7 @@ bad = settings 0x4140_0001 0 0
 abbrev time : ℕ → Float
 time = ofBits binary64
 
--- passed objects, 300s, flags, the bits of the clock rate; a score of 0 is there, so that 10 may be due
+-- passed objects, 300s, flags, the bits of the clock rate; a score of 0 is there, so that an estimate is due
 abbrev modded : ℕ → ℕ → ℕ → ℕ → Play
 modded passed n300 flags rate = record {
   «passed_objects» = passed;
@@ -277,14 +277,15 @@ reads =
     ∷ (set (four (objects 0 2147483647) none none) (6 * 13 + 5) 1, starts 3, 3, fine, [], play 3 0, 7)
     ∷ (set (four (objects 0 2147483647) none none) (6 * 13 + 5) 1, badStart ++ starts 2, 3, fine, [], play 3 0, 7)
     ∷ (set (four (objects 8193 2147483647) none none) (6 * 13 + 5) 1, starts 3, 3, fine, [], play 3 0, 13)
-    -- 13 before 9; 9 before 10, and 10
+    -- 13 before 9
     ∷ (one oneCircle, badStart, 1, fine, [], play 1 2, 13)
     ∷ (one oneCircle, starts 1, 1, fine, [], play 1 2, 9)
+    -- and no combo within the limit of its word is refused
     ∷ (one (set oneCircle 1 46342), starts 1, 1, fine, [], play 1 2, 9)
-    ∷ (one (set oneCircle 1 46342), starts 1, 1, fine, [], play 1 1, 10)
-    ∷ (one (set oneCircle 1 46341), starts 1, 1, fine, [], play 1 1, 0)
+    ∷ (one (set oneCircle 1 46342), starts 1, 1, fine, [], play 1 1, 0)
+    ∷ (one (set oneCircle 1 8200192), starts 1, 1, fine, [], play 1 1, 0)
     ∷ []
 
 read-numbers : map (λ (r : Read). number (readOf (r .0) (r .1) (r .2) (r .3) (r .4) (r .5))) reads ≡ map (λ (r : Read). r .6) reads
-unfolding reads readOf roomFor levelsOf levelsFrom argumentsBad settingsBad timesBad modsBad flagsBad scoreFrom foundOf walked afterOf limited inLimits joined entryAt startsIn unsound attributesFrom scoreAttributesOf difficultyAttributesOf playScore exceeds hitsExceed overCombo isDue _>>=_ _>>_ refuse_when_ ofBits le lt eq neg
+unfolding reads readOf roomFor levelsOf levelsFrom argumentsBad settingsBad timesBad modsBad flagsBad scoreFrom foundOf walked afterOf limited inLimits joined entryAt startsIn unsound attributesFrom scoreAttributesOf difficultyAttributesOf playScore exceeds hitsExceed _>>=_ _>>_ refuse_when_ ofBits le lt eq neg
 read-numbers = refl

@@ -1,5 +1,5 @@
 -- Document 01, "What a caller gets": a read checks 6 and 11, then "its settings and breaks, starts and ends in turn, an odd count 4, then 8", then
--- "13 and 7 entry by entry as read, and .. at last 9 and 10".
+-- "13 and 7 entry by entry as read, and .. at last 9 ..".
 use Prim.Native.Nat.{ℕ, _%_, min, _*_}
 use mathlib.Core.Bool.{Bool, true, false, not, _&&_, _||_}
 use mathlib.Core.List.{List, [], _∷_}

@@ -9,7 +9,7 @@ use borrow.Author.Tests.{ltb-false}
 use lib.Dec.{ltb}
 use lib.ListN.{length, take, length-take}
 use Rattle.rules.specs.Limits.{maxObjects}
-use Rattle.rules.specs.Refusals.{Checked, good, refused, _>>_, refuse_when_, PLAY-FIELD, PLAY-EXCEEDS, PLAY-COMBO}
+use Rattle.rules.specs.Refusals.{Checked, good, refused, _>>_, refuse_when_, PLAY-FIELD, PLAY-EXCEEDS}
 use Rattle.rules.proofs.Laws.{never}
 use Rattle.play_state.specs.declared.Play.{Play}
 use Rattle.records.specs.Objects.{Object, Kind, circle, slider, spinner}
@@ -26,7 +26,7 @@ use Rattle.simulator.proofs.Few.{count-is}
 use Rattle.simulator.proofs.Sums.{walk-gain}
 use Rattle.miss_calc.specs.Counts.{totalHits}
 use Rattle.estimates.specs.Effective.{estimatesOf}
-use Rattle.play_score.specs.PlayRules.{modsBad, hitsExceed, exceeds, overCombo, playScore, givenAnswer, givenScore}
+use Rattle.play_score.specs.PlayRules.{modsBad, hitsExceed, exceeds, playScore, givenAnswer, givenScore}
 use Rattle.play_score.specs.declared.PlayScore.{PlayScore}
 use Rattle.play_score.specs.declared.GivenPlay.the-variants as given
 use Rattle.slider_breaks.specs.Given.{BreaksScore, factorsBad, breaksScore, withBreaks}
@@ -64,19 +64,18 @@ fits-of : (p : Play) (a : ScoreAttributes) (s : PlayScore) → givenScore p a �
 unfolding givenScore playScore exceeds _>>_ refuse_when_
 fits-of p a s e =
     go (modsBad (p .mods)) (ltb (a .«object_count») (totalHits (p .hitresults))) (ltb (a .difficulty .«max_combo») (p .«max_combo»))
-    (hitsExceed (p .hitresults) (p .origin) (a .difficulty)) (overCombo p (a .difficulty)) refl refl e
+    (hitsExceed (p .hitresults) (p .origin) (a .difficulty)) refl refl e
   where
     whole-score : PlayScore
     whole-score = record { attributes = a; estimates = estimatesOf p (a .difficulty) }
 
-    go : (t u v w x : Bool) → ltb (a .«object_count») (totalHits (p .hitresults)) ≡ u → ltb (a .difficulty .«max_combo») (p .«max_combo») ≡ v
-        → ((refuse PLAY-FIELD when t) >> ((refuse PLAY-EXCEEDS when (u || v || w)) >> ((refuse PLAY-COMBO when x) >> good whole-score))) ≡ good s → Fits p a s
-    go true u v w x q r e = never (cc)
-    go false true v w x q r e = never (cc)
-    go false false true w x q r e = never (cc)
-    go false false false true x q r e = never (cc)
-    go false false false false true q r e = never (cc)
-    go false false false false false q r e = record { judged = ltb-false _ _ q; combo = ltb-false _ _ r; is = cc }
+    go : (t u v w : Bool) → ltb (a .«object_count») (totalHits (p .hitresults)) ≡ u → ltb (a .difficulty .«max_combo») (p .«max_combo») ≡ v
+        → ((refuse PLAY-FIELD when t) >> ((refuse PLAY-EXCEEDS when (u || v || w)) >> good whole-score)) ≡ good s → Fits p a s
+    go true u v w q r e = never (cc)
+    go false true v w q r e = never (cc)
+    go false false true w q r e = never (cc)
+    go false false false true q r e = never (cc)
+    go false false false false q r e = record { judged = ltb-false _ _ q; combo = ltb-false _ _ r; is = cc }
 
 -- ---- the range
 module _ (m : Map) (w : MapWithin m) (p : Play) where

@@ -9,6 +9,7 @@ use lib.Ieee.{Float, toUnsigned}
 use lib.ListN.{length, take, drop}
 use Rattle.numbers.specs.Floats.{whole, _⊗_}
 use Rattle.numbers.proofs.words.Laws.{Bytes}
+use Rattle.rules.specs.Limits.{maxCombo}
 use Rattle.rules.specs.Refusals.{good, BOARD}
 use Rattle.play_state.specs.declared.Play.{Play}
 use Rattle.records.specs.Objects.{Object}
@@ -49,7 +50,8 @@ use Rattle.demands.specs.Calls.{isAccepted, AcceptedMap, changed, timesO
 use Rattle.board.proofs.Numbers.{Numbered, read-numbered}
 use Rattle.demands.proofs.Refusals.{edit-numbered, BreaksNumbered, play-breaks-numbered, read-breaks-numbered, effective-of-a-play}
 use Rattle.demands.proofs.Files.{scoredPlays, plays-are-scored, RulesKept, only-when-kept, when-kept}
-use Rattle.demands.proofs.Exactness.{combo-points-exact, spinner-score-exact}
+use Rattle.demands.proofs.Exactness.{combo-points-exact, spinner-score-exact, ProductExact, product-exact, SumsFit, sums-fit}
+use Rattle.demands.proofs.Never10.{Never10, ten-is-gone}
 use Rattle.demands.proofs.BreaksRange.{breaks-of-a-play}
 use Rattle.demands.proofs.Maps.{within-scored, accepted-is-within, within-is-accepted, accepted-gets-none}
 use Rattle.demands.proofs.CallsRight.{edit-accepts, calls-right}
@@ -62,25 +64,29 @@ use Rattle.demands.proofs.Lists.{left-by-a-list}
 pub every-listing-fits : (s : List ℕ) → listedOf (inputText s) 262144 ≡ listed.Text (length (inputText s))
 every-listing-fits = listing-told
 
--- "An input that breaks a rule of document 01 gets that rule's number": a refusal's number is that of a rule, 2 to 10 (1 is the program's own).
+-- "An input that breaks a rule of document 01 gets that rule's number": a refusal's number is that of a rule, 2 to 9 (1 is the program's own).
 -- Which rule it is, `recordOf` and `playScore` say check by check.
 pub refused-by-a-rule : (s : List ℕ) (n at : ℕ) → scoresOf (fileOf s) ≡ refusal n at → IsRule n
 refused-by-a-rule = refusal-rule
 
--- on any lent memory a refused edit or read has a number from 2 to 13; so none has 0, which a host takes for a good call
+-- on any lent memory a refused edit or read has a number from 2 to 13 but for 10; so none has 0, which a host takes for a good call
 pub refused-edit-by-a-rule : (b : List ℕ) (ts : List Float) (n place : ℕ) (r : List ℕ) → Numbered (editOf b ts n place r)
 refused-edit-by-a-rule = edit-numbered
 
 pub refused-read-by-a-rule : (b : List ℕ) (ts : List Float) (n : ℕ) (s : Settings) (br : List Float) (p : Play) → Numbered (readOf b ts n s br p)
 refused-read-by-a-rule = read-numbered
 
--- with factors a refusal has a number from 2 to 14: of the call on a file, and of a read of any lent memory
+-- with factors a refusal has a number from 2 to 14 but for 10: of the call on a file, and of a read of any lent memory
 pub refused-play-breaks-by-a-rule : (s : List ℕ) (p : Play) (f : SliderFactors) → BreaksNumbered (withBreaks p f (givenPlayOf p (scoresOf (fileOf s))))
 refused-play-breaks-by-a-rule = play-breaks-numbered
 
 pub refused-read-breaks-by-a-rule : (b : List ℕ) (ts : List Float) (n : ℕ) (s : Settings) (br : List Float) (p : Play) (f : SliderFactors)
     → BreaksNumbered (withBreaks p f (givenAnswer (readOf b ts n s br p)))
 refused-read-breaks-by-a-rule = read-breaks-numbered
+
+-- document 02, §3: "it is shown that 10 no longer occurs", in any call on any input and any lent memory
+pub never-10 : Never10
+never-10 = ten-is-gone
 
 -- "one that breaks none gets none": a file that gets no number keeps the limits of every rule, and every map within them has a file that gets none
 pub accepted-keeps-the-rules : (s : List ℕ) (sc : Scores) → scoresOf (fileOf s) ≡ values sc → MapWithin (sc .map)
@@ -90,7 +96,7 @@ pub keeping-the-rules-is-accepted : (m : Map) → MapWithin m → scoresOf (file
 keeping-the-rules-is-accepted = within-scored
 
 -- the two together, of whole files: a file gets no number only when, and when, it is the file of a map within the limits with plays within theirs behind
--- it, none of which exceeds the map or is over the combo; its scores are then those of its plays
+-- it, none of which exceeds the map; its scores are then those of its plays
 pub no-number-only-when-the-rules-are-kept : (s : List ℕ) → Bytes s → (sc : Scores) → scoresOf (fileOf s) ≡ values sc → RulesKept s
 no-number-only-when-the-rules-are-kept = only-when-kept
 
@@ -130,6 +136,15 @@ every-combo-product-is-exact = combo-points-exact
 pub every-spinner-sum-is-exact : (m : Map) (p : ℕ) → AcceptedMap m
     → rustSpinnerScore (whole 0) (take p (m .objects)) ≡ whole (countedAll noObject (take p (m .objects)) .«spinner_score»)
 every-spinner-sum-is-exact = spinner-score-exact
+
+-- document 02, §3: "takes (max combo - 2) × max combo as an exact whole number, then as a float": the product of every combo within the limits is below
+-- 2 ^ 53, so that its float is exact
+pub every-score-combo-product-is-exact : (combo : ℕ) → combo ≤ maxCombo → ProductExact combo
+every-score-combo-product-is-exact = product-exact
+
+-- and no other sum of the source leaves its type: for every accepted map and passed count
+pub every-sum-fits-its-type : (m : Map) (p : ℕ) → AcceptedMap m → SumsFit (scoreAttributesAt m p)
+every-sum-fits-its-type = sums-fit
 
 -- ---- Demand 3
 -- "For every list of edits and reads that document 01 admits, refused calls included, on a board and start table built from an accepted map": the

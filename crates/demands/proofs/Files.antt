@@ -1,5 +1,5 @@
--- Demand 1 for files with plays: the plays of an accepted file exceed nothing and keep their combo, and a map within the limits with plays within
--- theirs that do so has a file that gets no number. Assumes nothing.
+-- Demand 1 for files with plays: the plays of an accepted file do not exceed its map, and a map within the limits with plays within theirs that
+-- do not has a file that gets no number. Assumes nothing.
 use mathlib.Core.Bool.{Bool, true, false}
 use mathlib.Core.List.{List, [], _∷_, _++_}
 use mathlib.Core.Path.{_≡_, refl, sym, ap, _∙_, subst}
@@ -16,15 +16,14 @@ use Rattle.encoding.proofs.FileBytes.{accepted-bytes}
 use Rattle.encoding.proofs.RoundTrip.{round-trip, bare}
 use Rattle.simulator.specs.Attributes.{scoreAttributesAt}
 use Rattle.estimates.specs.Effective.{estimatesOf}
-use Rattle.play_score.specs.PlayRules.{exceeds, overCombo, playScore}
+use Rattle.play_score.specs.PlayRules.{exceeds, playScore}
 use Rattle.play_score.specs.declared.PlayScore.{PlayScore}
 use Rattle.scoring.specs.Scores.{Outcome, refusal, values, at-offset, then, Scores, playScoreOn, playScores, scoresOf}
 use Rattle.scoring.proofs.Answers.{no-number}
 
--- a play that breaks neither 9 nor 10 on its map
-pub record Keeps (m : Map) (p : Play) : Type 0 where
-  pub fits : exceeds p (scoreAttributesAt m (p .«passed_objects»)) ≡ false
-  pub combo : overCombo p (scoreAttributesAt m (p .«passed_objects») .difficulty) ≡ false
+-- a play that does not break 9 on its map
+abbrev pub Keeps : Map → Play → Type 0
+Keeps m p = exceeds p (scoreAttributesAt m (p .«passed_objects»)) ≡ false
 
 -- its score: "Attributes are those of the passed objects"
 abbrev pub scored : Map → Play → PlayScore
@@ -38,19 +37,16 @@ scoredPlays m (p ∷ ps) = scored m p ∷ scoredPlays m ps
 -- ---- one play, both ways
 keeps-good : (m : Map) (p : Play) → Keeps m p → playScoreOn m p ≡ good (scored m p)
 unfolding playScore _>>_ refuse_when_
-keeps-good m p k = simp (k .fits, k .combo)
+keeps-good m p k = simp k
 
 good-keeps : (m : Map) (p : Play) (s : PlayScore) → playScoreOn m p ≡ good s → Keeps m p
 unfolding playScore _>>_ refuse_when_
 good-keeps m p s e =
-    go (exceeds p (scoreAttributesAt m (p .«passed_objects»))) refl (overCombo p (scoreAttributesAt m (p .«passed_objects») .difficulty)) refl e
+    go (exceeds p (scoreAttributesAt m (p .«passed_objects»))) refl e
   where
-    go : (x : Bool) → exceeds p (scoreAttributesAt m (p .«passed_objects»)) ≡ x
-        → (y : Bool) → overCombo p (scoreAttributesAt m (p .«passed_objects») .difficulty) ≡ y → ((refuse 9 when x) >> ((refuse 10 when y) >> good (scored m p))) ≡ good s
-        → Keeps m p
-    go true f y g e = never (cc)
-    go false f true g e = never (cc)
-    go false f false g e = record { fits = f; combo = g }
+    go : (x : Bool) → exceeds p (scoreAttributesAt m (p .«passed_objects»)) ≡ x → ((refuse 9 when x) >> good (scored m p)) ≡ good s → Keeps m p
+    go true f e = never (cc)
+    go false f e = f
 
 -- ---- the plays of a file
 plays-scored : (m : Map) (l : List (ℕ × Play)) → Each (Keeps m) (bare l) → playScores m l ≡ values (scoredPlays m (bare l))
@@ -77,7 +73,7 @@ values-same e = cc
 pub plays-are-scored : (m : Map) (l : List (ℕ × Play)) (ss : List PlayScore) → playScores m l ≡ values ss → ss ≡ scoredPlays m (bare l)
 plays-are-scored m l ss e = values-same (sym e ∙ plays-scored m l (plays-keep m l ss e))
 
--- a map within the limits, and plays within theirs that break neither 9 nor 10 on it: their file gets no number, and its scores are theirs
+-- a map within the limits, and plays within theirs that do not break 9 on it: their file gets no number, and its scores are theirs
 pub file-with-plays : (m : Map) (ps : List Play) → MapWithin m → Each PlayWithin ps → Each (Keeps m) ps
     → scoresOf (fileOf (mapFile m ++ each playBytes ps)) ≡ values (record { map = m; plays = scoredPlays m ps })
 file-with-plays m ps w pw kept =
@@ -90,7 +86,7 @@ file-with-plays m ps w pw kept =
     ∙ ap (λ (x : Outcome (List PlayScore)). then x (λ ss. values (record { map = m; plays = ss }))) here
 
 -- ---- "given when, and only when", of whole files
--- the file of a map within the limits with plays within theirs behind it, none of which breaks 9 or 10
+-- the file of a map within the limits with plays within theirs behind it, none of which breaks 9
 pub record RulesKept (s : List ℕ) : Type 0 where
   pub map : Map
   pub plays : List Play

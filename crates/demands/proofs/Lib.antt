@@ -9,6 +9,7 @@ pub mod Exactness
 pub mod BreaksRange
 pub mod Files
 pub mod Refusals
+pub mod Never10
 pub mod Lists
 pub mod ListUse
 pub mod Demands

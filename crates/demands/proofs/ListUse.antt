@@ -30,7 +30,7 @@ use Rattle.simulator.specs.Hits.{halfSpins, hitsOf}
 use Rattle.simulator.specs.Walk.{walk, after}
 use Rattle.simulator.specs.Nested.{spinnerScoreOf, counted, countedAll, nestedScoreOf}
 use Rattle.simulator.specs.Attributes.{scoreAttributesAt, scoreAttributesOf, legacyAttributesOf, difficultyAttributesOf, bonusRatioOf}
-use Rattle.play_score.specs.PlayRules.{modsBad, hitsExceed, exceeds, isDue, overCombo, playScore, givenScore}
+use Rattle.play_score.specs.PlayRules.{modsBad, hitsExceed, exceeds, playScore, givenScore}
 use Rattle.play_score.specs.declared.GivenPlay.the-variants as given
 use Rattle.scoring.specs.Scores.{playScores, scoresOf}
 use Rattle.exponential.specs.Exp.{seriesOf, squared, expOf}
@@ -198,7 +198,7 @@ record Told : Type 0 where
   beyond-the-map : breaksIn (answer (read-breaks 3 (built-map .settings) times beyond wrong-factors) read-thrice) ≡ 9 ∷ 0 ∷ []
 
 told : Told
-unfolding times first edited read-once read-twice read-thrice at built-map words file numbers list spin playOn play broken beyond factors wrong-factors valuesOf breaksIn isAccepted timesOf mapAfter objectIn mapFile headerBytes breakBytes nestedBytes objectBytes each fieldsOf fileOf fileFrom with-record countsOf bonus recordOf bodyOf objectOf headerOf breakOf circleOf sliderOf spinnerOf playOf nestedOf hitresultsOf flagsBad wordAt bytesOf _>>=_ _>>_ refuse_when_ ofBits le lt eq neg ofInt toBits playScores levelsFrom levelsOf boardOf wordsFrom boardEntry entryIn covered entryOf total legacyOf standardisedOf spinnerScoreOf totalHalfSpins requiredHalfSpins add sub mul div toUnsigned isNan halfSpinPoints repeats ticks givenScore playScore modsBad exceeds hitsExceed overCombo isDue scoreAttributesAt scoreAttributesOf legacyAttributesOf difficultyAttributesOf bonusRatioOf nestedScoreOf counted countedAll breaksOf breaksLength drainAt multiplierAt starsOf ratioOf clampOf roundTiesEvenI32 halfSpins hitsOf walk after maxOf minOf thresholdOf cappedOf brokenOf classicOf comboBasedOf scoreBasedFor scoreBasedOf heldOf effectiveOf estimatesOf isFactor factorsBad estimatedBreaks sliderBreaksOf adjustedOf reverseLerpOf smoothstepOf logisticOf expOf seriesOf squared round playBytes
+unfolding times first edited read-once read-twice read-thrice at built-map words file numbers list spin playOn play broken beyond factors wrong-factors valuesOf breaksIn isAccepted timesOf mapAfter objectIn mapFile headerBytes breakBytes nestedBytes objectBytes each fieldsOf fileOf fileFrom with-record countsOf bonus recordOf bodyOf objectOf headerOf breakOf circleOf sliderOf spinnerOf playOf nestedOf hitresultsOf flagsBad wordAt bytesOf _>>=_ _>>_ refuse_when_ ofBits le lt eq neg ofInt toBits playScores levelsFrom levelsOf boardOf wordsFrom boardEntry entryIn covered entryOf total legacyOf standardisedOf spinnerScoreOf totalHalfSpins requiredHalfSpins add sub mul div toUnsigned isNan halfSpinPoints repeats ticks givenScore playScore modsBad exceeds hitsExceed scoreAttributesAt scoreAttributesOf legacyAttributesOf difficultyAttributesOf bonusRatioOf nestedScoreOf counted countedAll breaksOf breaksLength drainAt multiplierAt starsOf ratioOf clampOf roundTiesEvenI32 halfSpins hitsOf walk after maxOf minOf thresholdOf cappedOf brokenOf classicOf comboBasedOf scoreBasedFor scoreBasedOf heldOf effectiveOf estimatesOf isFactor factorsBad estimatedBreaks sliderBreaksOf adjustedOf reverseLerpOf smoothstepOf logisticOf expOf seriesOf squared round playBytes
 told =
     let right : Right (7 ∷ []) (whole 9 ∷ []) list (mapIn (fileOf file)) first = calls-right file words numbers list done stands in
     record {

@@ -1,4 +1,4 @@
--- On any lent memory a refused edit or read has one of document 01's numbers, 2 to 13, with factors 14 too, and no refusal has number 0, which a host
+-- On any lent memory a refused edit or read has one of document 01's numbers, 2 to 13 but for 10, with factors 14 too, and no refusal has number 0, which a host
 -- takes for a good call.
 -- And what a play is told of its misses lies from its misses to its judgements. Assumes nothing.
 use mathlib.Core.Bool.{Bool, true, false, _&&_, _||_, true≢false}
@@ -33,38 +33,42 @@ use Rattle.slider_breaks.specs.Given.{BreaksScore, GivenBreaks, factorsBad, bre
 use Rattle.slider_breaks.specs.Given as breaks
 use Rattle.slider_breaks.specs.declared.calculator.SliderFactors.{SliderFactors}
 use Rattle.scoring.specs.Scores.{Outcome, refusal, values, Scores, scoresOf, givenPlayOf}
-use Rattle.scoring.proofs.Rules.{Ruled, fine, rule, refusal-rule, ruled-given}
+use Rattle.scoring.proofs.Rules.{IsRule, Ruled, fine, rule, refusal-rule, ruled-given}
 use Rattle.entries.specs.Entry.{entryOf}
 use Rattle.tree.specs.Size.{levelsOf, capOf}
 use Rattle.board.specs.Place.{putPlace}
 use Rattle.board.specs.Edit.{editOf}
 use Rattle.board.specs.Read.{readOf}
-use Rattle.board.proofs.Numbers.{Numbered, value, number, numbered-bind, numbered-then, numbered-when, room-numbered, climbed-numbered, read-numbered}
+use Rattle.board.proofs.Numbers.{Number, number-is, Numbered, value, number, numbered-bind, numbered-then, numbered-when, room-numbered, climbed-numbered, read-numbered}
 use Rattle.demands.proofs.Boards.{record-ruled}
 
-numbered-rule : {A : Type 0} {x : Checked A} → Ruled x → Numbered x
+-- the numbers of a file's rules are 2 to 9
+number-in : (highest : ℕ) {n : ℕ} → IsRule n → 9 ≤ highest → Number highest n
+number-in highest r h = record { least = r .0; most = omega (arith, r .1, h); not-10 = λ e. omega (arith, r .1, e) }
+
+pub numbered-rule : {A : Type 0} {x : Checked A} → Ruled x → Numbered x
 numbered-rule fine = value
-numbered-rule (rule r) = number (r .0) (omega (arith, r .1))
+numbered-rule (rule r) = number (number-in 13 r (omega arith))
 
 -- ---- an edit
 pub edit-numbered : (b : List ℕ) (ts : List Float) (n place : ℕ) (r : List ℕ) → Numbered (editOf b ts n place r)
 unfolding editOf putPlace
 edit-numbered b ts n place r =
-    numbered-then _ _ (room-numbered b ts n) (numbered-then _ _ (numbered-when 12 _ (omega arith) (omega arith)) (numbered-bind _ _ (numbered-rule (record-ruled r)) (λ o.
+    numbered-then _ _ (room-numbered b ts n) (numbered-then _ _ (numbered-when 12 _ refl) (numbered-bind _ _ (numbered-rule (record-ruled r)) (λ o.
     numbered-bind _ _ (climbed-numbered (levelsOf n) b (capOf n + place) (entryOf (o ∷ []))) (λ w. value))))
 
 -- ---- with factors
 -- values, or one of the numbers 2 to 14
 pub data BreaksNumbered : GivenBreaks → Type 0 where
   scored : {s : BreaksScore} → BreaksNumbered (breaks.Score s)
-  numbered : {n at : ℕ} → 2 ≤ n → n ≤ 14 → BreaksNumbered (breaks.Refused n at)
+  numbered : {n at : ℕ} → Number 14 n → BreaksNumbered (breaks.Refused n at)
 
 numbered-with : (p : Play) (f : SliderFactors) (x : Checked PlayScore) → Numbered x → BreaksNumbered (withBreaks p f (givenAnswer x))
-numbered-with p f (refused n) (number l h) = numbered l (omega (arith, h))
+numbered-with p f (refused n) (number h) = numbered (record { least = h .least; most = omega (arith, h .most); not-10 = h .not-10 })
 numbered-with p f (good s) value = go (factorsBad f)
   where
     go : (t : Bool) → BreaksNumbered (pick t (breaks.Refused FACTOR 0) (breaks.Score (breaksScore p f s)))
-    go true = numbered {n = FACTOR} (omega arith) (omega arith)
+    go true = numbered {n = FACTOR} (number-is 14 FACTOR refl)
     go false = scored
 
 pub read-breaks-numbered : (b : List ℕ) (ts : List Float) (n : ℕ) (s : Settings) (br : List Float) (p : Play) (f : SliderFactors)
@@ -75,7 +79,7 @@ pub play-breaks-numbered : (s : List ℕ) (p : Play) (f : SliderFactors) → Bre
 play-breaks-numbered s p f = go (scoresOf (fileOf s)) refl
   where
     go : (x : Outcome Scores) → scoresOf (fileOf s) ≡ x → BreaksNumbered (withBreaks p f (givenPlayOf p x))
-    go (refusal n at) e = let r = refusal-rule s n at e in numbered (r .0) (omega (arith, r .1))
+    go (refusal n at) e = let r = refusal-rule s n at e in numbered (number-in 14 r (omega arith))
     go (values sc) e =
         let a = scoreAttributesAt (sc .map) (p .«passed_objects») in
         numbered-with p f (givenScore p a) (numbered-rule (ruled-given p a))
@@ -83,7 +87,7 @@ play-breaks-numbered s p f = go (scoresOf (fileOf s)) refl
 -- ---- so none has number 0
 not-0 : {A : Type 0} {x : Checked A} → Numbered x → x ≡ refused 0 → ⊥
 not-0 value e = never (cc)
-not-0 (number {n = n} l h) e = let z : n ≡ 0 = cc in absurd (omega (arith, l, z))
+not-0 (number {n = n} h) e = let z : n ≡ 0 = cc in absurd (omega (arith, h .least, z))
 
 pub edit-not-0 : (b : List ℕ) (ts : List Float) (n place : ℕ) (r : List ℕ) → editOf b ts n place r ≡ refused 0 → ⊥
 edit-not-0 b ts n place r = not-0 (edit-numbered b ts n place r)

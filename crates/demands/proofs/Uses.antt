@@ -1,16 +1,19 @@
 -- The theorems of Demands in use: what follows from them in a step or two, by their statements alone, so that a weaker one would not give it. The claim
 -- over lists is used in ListUse. Assumes nothing.
-use mathlib.Core.Bool.{true}
+use mathlib.Core.Bool.{true, false}
 use mathlib.Core.List.{List, [], _∷_}
 use mathlib.Core.Logic.{_≢_}
 use mathlib.Core.Path.{_≡_, refl, sym, ap, _∙_, subst}
-use Prim.Native.Nat.{ℕ, _*_, _-_, _/_, _^_, _≤_, _<_}
+use Prim.Native.Nat.{ℕ, _+_, _*_, _-_, _/_, _^_, _≤_, _<_}
 use native.Mathlib.Nat.{le-div-iff-mul-le}
 use native.Mathlib.Omega.{arith}
-use lib.Ieee.{Float, nan, le, toUnsigned}
+use borrow.Author.Tests.{ne-eqb}
+use lib.Dec.{eqb, lit<}
+use lib.Ieee.{Float, nan, neg, le, toUnsigned}
 use lib.ListN.{length, take, drop, getD}
 use lib.Pow.{pow-mono, pow-pos}
 use Rattle.numbers.specs.Floats.{whole, _⊗_}
+use Rattle.numbers.proofs.Wholes.{whole-cut}
 use Rattle.numbers.proofs.words.Laws.{Bytes}
 use Rattle.rules.specs.Refusals.{Checked, good, refused, BOARD}
 use Rattle.play_state.specs.declared.Play.{Play}
@@ -26,7 +29,10 @@ use Rattle.simulator.specs.Walk.{comboPoints}
 use Rattle.simulator.specs.Attributes.{scoreAttributesAt}
 use Rattle.simulator.specs.declared.attributes.OsuDifficultyAttributes.{OsuDifficultyAttributes}
 use Rattle.simulator.proofs.Exact.{rustSpinnerScore}
+use Rattle.play_reader.specs.View.{answerOf, simulatedOf}
+use Rattle.play_reader.specs.declared.Simulated.the-variants as simulated
 use Rattle.miss_calc.specs.Counts.{totalHits}
+use Rattle.miss_calc.specs.ScoreBased.{comboProductOf}
 use Rattle.estimates.specs.Effective.{estimatesOf}
 use Rattle.play_score.specs.declared.GivenPlay.the-variants as given
 use Rattle.play_score.specs.PlayRules.{givenAnswer}
@@ -34,11 +40,12 @@ use Rattle.slider_breaks.specs.Given.{BreaksScore, GivenBreaks, withBreaks}
 use Rattle.slider_breaks.specs.declared.calculator.SliderFactors.{SliderFactors}
 use Rattle.slider_breaks.proofs.Range.{BreaksInRange}
 use Rattle.slider_breaks.specs.Given as breaks
-use Rattle.scoring.specs.Scores.{refusal, values, Scores, scoresOf, givenPlayOf}
+use Rattle.scoring.specs.Scores.{Outcome, refusal, values, Scores, scoresOf, mapScoreOf, givenPlayOf, listedPlayOf}
 use Rattle.entries.specs.Entry.{placeWords}
 use Rattle.entries.specs.Words.{entryAt}
 use Rattle.tree.specs.Board.{Covers, own, left, right}
 use Rattle.tree.specs.Size.{capOf}
+use Rattle.board.specs.Place.{writtenLeft}
 use Rattle.board.specs.Read.{readOf}
 use Rattle.board.specs.Edit.{objectIn, editOf}
 use Rattle.board.specs.declared.place.Written.{Written}
@@ -47,12 +54,22 @@ use Rattle.board_build.specs.Build.{built}
 use Rattle.listing.specs.Listing.{inputText, listedOf}
 use Rattle.listing.specs.declared.Listed.{Listed}
 use Rattle.listing.specs.declared.Listed.the-variants as listed
+use Rattle.host.specs.Status.{statusLeft}
+use Rattle.host.specs.Map.{settingsIn, mapInfoOf}
+use Rattle.host.specs.Play.{playIn}
+use Rattle.host.specs.Answer.{mapAnswerOf, givenAnswerOf, singleOf, listedAnswerOf}
+use Rattle.host.specs.Breaks.{factorsIn, breaksAnswerOf}
+use Rattle.host.specs.declared.map.HostSettings.{HostSettings}
+use Rattle.host.specs.declared.play.HostPlay.{HostPlay}
+use Rattle.host.specs.declared.breaks.HostFactors.{HostFactors}
+use Rattle.host.specs.declared.answer.PlayAnswer.{PlayAnswer}
+use Rattle.heat.specs.Heat.{heatOf}
 use Rattle.demands.specs.Calls.{isAccepted, AcceptedMap, changed, timesOf, mapIn, lentFor, lentBy, Call, edit, read, read-breaks, edits, reads, reads-breaks, answer, lentAfter, mapAfterAll, lentAfterAll, MayStand}
 use Rattle.board.proofs.Numbers.{Numbered, value, number}
 use Rattle.demands.proofs.Refusals.{BreaksNumbered, scored, numbered}
 use Rattle.demands.proofs.Files.{scoredPlays}
 use Rattle.demands.proofs.Boards.{Leads}
-use Rattle.demands.proofs.Demands.{every-listing-fits, refused-by-a-rule, refused-edit-by-a-rule, refused-read-by-a-rule, refused-play-breaks-by-a-rule, refused-read-breaks-by-a-rule, accepted-keeps-the-rules, keeping-the-rules-is-accepted, no-number-only-when-the-rules-are-kept, no-number-when-the-rules-are-kept, every-combo-product-is-exact, values-are-the-definition's, effective-misses-in-range, slider-breaks-in-range, every-list-of-calls, every-spinner-sum-is-exact, accepted-maps-are-within, accepted-map-gets-no-number, every-accepted-map-is-built, maps-within-are-accepted, left-by-every-list, changed-map-accepted, one-edit-leads, edit-touches-only, never-13-edit, never-13-read, never-13-read-breaks}
+use Rattle.demands.proofs.Demands.{every-listing-fits, refused-by-a-rule, refused-edit-by-a-rule, refused-read-by-a-rule, refused-play-breaks-by-a-rule, refused-read-breaks-by-a-rule, never-10, accepted-keeps-the-rules, keeping-the-rules-is-accepted, no-number-only-when-the-rules-are-kept, no-number-when-the-rules-are-kept, every-combo-product-is-exact, every-score-combo-product-is-exact, every-sum-fits-its-type, values-are-the-definition's, effective-misses-in-range, slider-breaks-in-range, every-list-of-calls, every-spinner-sum-is-exact, accepted-maps-are-within, accepted-map-gets-no-number, every-accepted-map-is-built, maps-within-are-accepted, left-by-every-list, changed-map-accepted, one-edit-leads, edit-touches-only, never-13-edit, never-13-read, never-13-read-breaks}
 
 -- ---- Demand 1
 -- no listing is cut
@@ -63,12 +80,13 @@ hasRoom listed.NoRoom = 0
 never-cut : (s : List ℕ) → listedOf (inputText s) 262144 ≢ listed.NoRoom
 never-cut s e = omega (arith, ap hasRoom (sym (every-listing-fits s) ∙ e))
 
--- 0 is a host's number of a good call, and 11 a board's
+-- 0 is a host's number of a good call
 no-file-gets-0 : (s : List ℕ) (at : ℕ) → scoresOf (fileOf s) ≢ refusal 0 at
 no-file-gets-0 s at e = omega (arith, refused-by-a-rule s 0 at e .0)
 
-no-file-gets-11 : (s : List ℕ) (at : ℕ) → scoresOf (fileOf s) ≢ refusal 11 at
-no-file-gets-11 s at e = omega (arith, refused-by-a-rule s 11 at e .1)
+-- nor 10, which was the highest of a file's once
+no-file-gets-10 : (s : List ℕ) (at : ℕ) → scoresOf (fileOf s) ≢ refusal 10 at
+no-file-gets-10 s at e = omega (arith, refused-by-a-rule s 10 at e .1)
 
 abbrev numberOf : {A : Type 0} → Checked A → ℕ
 numberOf (good a) = 1
@@ -76,7 +94,7 @@ numberOf (refused n) = n
 
 not-0 : {A : Type 0} (x : Checked A) → Numbered x → x ≢ refused 0
 not-0 (good a) value e = omega (arith, ap numberOf e)
-not-0 (refused n) (number l h) e = omega (arith, l, ap numberOf e)
+not-0 (refused n) (number h) e = omega (arith, h .least, ap numberOf e)
 
 no-edit-gets-0 : (b : List ℕ) (ts : List Float) (n place : ℕ) (r : List ℕ) → editOf b ts n place r ≢ refused 0
 no-edit-gets-0 b ts n place r = not-0 (editOf b ts n place r) (refused-edit-by-a-rule b ts n place r)
@@ -91,7 +109,7 @@ breaksNumber (breaks.Refused n at) = n
 
 between : (x : GivenBreaks) → BreaksNumbered x → (2 ≤ breaksNumber x) × (breaksNumber x ≤ 14)
 between (breaks.Score s) scored = (omega arith, omega arith)
-between (breaks.Refused n at) (numbered l h) = (l, h)
+between (breaks.Refused n at) (numbered h) = (h .least, h .most)
 
 no-play-with-factors-gets-1 : (s : List ℕ) (p : Play) (f : SliderFactors) (at : ℕ) → withBreaks p f (givenPlayOf p (scoresOf (fileOf s))) ≢ breaks.Refused 1 at
 no-play-with-factors-gets-1 s p f at e = omega (arith, between _ (refused-play-breaks-by-a-rule s p f) .0, ap breaksNumber e)
@@ -99,6 +117,47 @@ no-play-with-factors-gets-1 s p f at e = omega (arith, between _ (refused-play-b
 no-read-with-factors-gets-15 : (b : List ℕ) (ts : List Float) (n : ℕ) (s : Settings) (br : List Float) (p : Play) (f : SliderFactors) (at : ℕ)
     → withBreaks p f (givenAnswer (readOf b ts n s br p)) ≢ breaks.Refused 15 at
 no-read-with-factors-gets-15 b ts n s br p f at e = omega (arith, between _ (refused-read-breaks-by-a-rule b ts n s br p f) .1, ap breaksNumber e)
+
+-- a host that still tests for 10 never finds it: in no answer of a call on a file, ..
+module _ (s : List ℕ) (p : HostPlay) (f : HostFactors) where
+  abbrev x : Outcome Scores
+  x = scoresOf (fileOf s)
+
+  no-10-of-a-file : (i at passed : ℕ)
+      → (x ≢ refusal 10 at)
+      × (simulatedOf (fileOf s) passed ≢ simulated.Refused 10 at)
+      × (eqb (mapInfoOf (answerOf (fileOf s)) .status) 10 ≡ false)
+      × (eqb (mapAnswerOf (mapScoreOf x) .status) 10 ≡ false)
+      × (eqb (singleOf x p .status) 10 ≡ false)
+      × (eqb (listedAnswerOf (listedPlayOf i x) .status) 10 ≡ false)
+      × (eqb (breaksAnswerOf (withBreaks (playIn p) (factorsIn f) (givenPlayOf (playIn p) x)) .status) 10 ≡ false)
+  no-10-of-a-file i at passed = (
+    never-10 .file s at,
+    never-10 .simulate s passed at,
+    ne-eqb _ 10 (never-10 .read-map s),
+    ne-eqb _ 10 (never-10 .score-map s),
+    ne-eqb _ 10 (never-10 .score-play s p),
+    ne-eqb _ 10 (never-10 .score-play-at s i),
+    ne-eqb _ 10 (never-10 .score-play-breaks s p f),
+  )
+
+  -- .. of a heat and of the plays in it, whose first outcome is written over one with 10, ..
+  no-10-of-a-heat : (os : List PlayAnswer) → (eqb (heatOf x (p ∷ []) os .0 .status) 10 ≡ false)
+      × (heatOf x (p ∷ []) os .0 .status ≡ 0 → (o : PlayAnswer) → eqb (getD (heatOf x (p ∷ []) os .1) 0 o .status) 10 ≡ false)
+  no-10-of-a-heat os = (ne-eqb _ 10 (never-10 .heat s (p ∷ []) os), λ done o. ne-eqb _ 10 (never-10 .outcome s (p ∷ []) os done 0 p o (lit< tt)))
+
+  -- .. nor on any board
+  no-10-on-a-board : (b : List ℕ) (ts : List Float) (n place : ℕ) (r : List ℕ) (settings : HostSettings) (br : List Float)
+      → (eqb (statusLeft (built x b ts) .0 .status) 10 ≡ false)
+      × (eqb (statusLeft (writtenLeft (editOf b ts n place r) b ts) .0 .status) 10 ≡ false)
+      × (eqb (givenAnswerOf (givenAnswer (readOf b ts n (settingsIn settings) br (playIn p))) .status) 10 ≡ false)
+      × (eqb (breaksAnswerOf (withBreaks (playIn p) (factorsIn f) (givenAnswer (readOf b ts n (settingsIn settings) br (playIn p)))) .status) 10 ≡ false)
+  no-10-on-a-board b ts n place r settings br = (
+    ne-eqb _ 10 (never-10 .build s b ts),
+    ne-eqb _ 10 (never-10 .edit b ts n place r),
+    ne-eqb _ 10 (never-10 .read b ts n settings br p),
+    ne-eqb _ 10 (never-10 .read-breaks b ts n settings br p f),
+  )
 
 -- the map of an accepted file, without the file's plays, has a file that is accepted
 map-alone : (s : List ℕ) (sc : Scores) → scoresOf (fileOf s) ≡ values sc → scoresOf (fileOf (mapFile (sc .map))) ≡ values (record { map = sc .map; plays = [] })
@@ -146,6 +205,35 @@ last-product : (m : Map) (p : ℕ) → AcceptedMap m
     → toUnsigned 31 (whole (scoreAttributesAt m p .legacy .«max_combo» - 1) ⊗ whole (300 / 25) ⊗ whole (multiplierAt m p))
     ≡ comboPoints (multiplierAt m p) (scoreAttributesAt m p .legacy .«max_combo») 300
 last-product m p a = every-combo-product-is-exact m p a (scoreAttributesAt m p .legacy .«max_combo») (omega arith)
+
+-- the product of every accepted map's max combo is a whole number that its float keeps, the largest one that there is among them
+longest-product : (m : Map) (p : ℕ) → AcceptedMap m → 2 ≤ scoreAttributesAt m p .difficulty .«max_combo»
+    → toUnsigned 53 (comboProductOf (scoreAttributesAt m p .difficulty .«max_combo»))
+    ≡ (scoreAttributesAt m p .difficulty .«max_combo» - 2) * scoreAttributesAt m p .difficulty .«max_combo»
+longest-product m p a some = every-score-combo-product-is-exact _ (every-sum-fits-its-type m p a .max-combo) .exact some
+
+largest-product : toUnsigned 53 (comboProductOf 8200192) ≡ 67243132436480
+largest-product = every-score-combo-product-is-exact 8200192 (omega arith) .exact (omega arith)
+
+-- of maps with the most combo the product is no more than that; and one circle has -1
+no-larger-product : (combo : ℕ) → combo ≤ 8200192 → (combo - 2) * combo < 2 ^ 53
+no-larger-product combo h = every-score-combo-product-is-exact combo h .below
+
+product-of-one : comboProductOf 1 ≡ neg (whole 1)
+product-of-one = every-score-combo-product-is-exact 1 (omega arith) .of-one refl
+
+-- an i32 holds accuracy and both bonus sums of an accepted map, and their total of three has 33 bits
+totals-fit : (m : Map) (p : ℕ) → AcceptedMap m
+    → scoreAttributesAt m p .legacy .«accuracy_score» + scoreAttributesAt m p .legacy .«bonus_score» .0 + scoreAttributesAt m p .«standardised_bonus_score» .0 < 2 ^ 33
+totals-fit m p a = let fit = every-sum-fits-its-type m p a in omega (arith, fit .accuracy, fit .legacy, fit .standardised)
+
+-- the float of its combo points is exact, and the counts that the accuracy of origin 2 adds up have 32 bits
+points-kept : (m : Map) (p : ℕ) → AcceptedMap m
+    → (toUnsigned 53 (whole (scoreAttributesAt m p .legacy .«combo_score»)) ≡ scoreAttributesAt m p .legacy .«combo_score»)
+    × (scoreAttributesAt m p .difficulty .«n_sliders» + scoreAttributesAt m p .difficulty .«n_repeats» + scoreAttributesAt m p .difficulty .«n_ticks» < 2 ^ 32)
+points-kept m p a =
+    let fit = every-sum-fits-its-type m p a in
+    (whole-cut 53 _ (omega (arith, fit .combo-points)) (fit .combo-points), omega (arith, fit .counts))
 
 -- ---- Demand 3
 -- the file of an accepted map is scored as that map

@@ -144,8 +144,9 @@ abbrev pub fromFile : Outcome Scores → GivenPlay
 fromFile (refusal n at) = given.Refused n 0
 fromFile (values s) = onlyPlay (s .plays)
 
--- "A read with the map's count, settings and breaks gets 8, 9 or 10 exactly when its play, put after the map in the file, gets that same number;
--- its values are all score attributes and estimates of demand 2": as a file's with just that play, and as the scoring call's of a play on the map
+-- "A read with the map's count, settings and breaks gets 8, 9 .. exactly when its play, put after the map in the file, gets that same number; its
+-- values are all score attributes and estimates of demand 2": as a file's with just that play, and as the scoring call's of a play on the map. (Document
+-- 02, §3 took 10 away.)
 pub record ReadAnswer (m : Map) (p : Play) (a : CallAnswer) : Type 0 where
   pub as-in-file : a ≡ reads (fromFile (scoresOf (fileOf (mapFile m ++ playBytes p))))
   pub as-scored : a ≡ reads (givenAnswer (givenScore p (scoreAttributesAt m (p .«passed_objects»))))

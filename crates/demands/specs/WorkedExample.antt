@@ -29,7 +29,7 @@ use Rattle.miss_calc.specs.Threshold.{thresholdOf, cappedOf}
 use Rattle.estimates.specs.Accuracy.{absOf, quotientOf, weighted, heaviest, withSliderAcc, withoutSliderAcc, accuracyOf}
 use Rattle.estimates.specs.ComboBased.{brokenOf, classicOf, lazerOf, comboBasedOf}
 use Rattle.estimates.specs.Effective.{scoreBasedFor, heldOf, effectiveOf, estimatesOf}
-use Rattle.play_score.specs.PlayRules.{modsBad, hitsExceed, exceeds, isDue, overCombo, playScore, givenScore}
+use Rattle.play_score.specs.PlayRules.{modsBad, hitsExceed, exceeds, playScore, givenScore}
 use Rattle.scoring.specs.Scores.{playScores}
 use Rattle.text.specs.Numbers.{decimalUpTo, decimalOf, valueFrom, hexOf, floatText}
 use Rattle.text.specs.Space.{putAt, behind}
@@ -61,5 +61,5 @@ file = header ++ circle ++ slider ++ last ++ play
 
 lists : inputText file
     ≡ ascii "map 3 2 1010 240 0000000000000000 0 7 4042555555555555\nplay 0 3ff0000000000000 0000000000000000 0000000000000000 0000000000000000\n"
-unfolding file header circle slider last play partsOf maxOf minOf clampOf roundTiesEvenI32 wordAt bytesOf rootDigits isqrt rooted rootOf powerOf _>>=_ _>>_ refuse_when_ halfSpinPoints legacyOf standardisedOf totalHalfSpins requiredHalfSpins flagAt flagsBad hitresultsOf repeats ticks bonus headerOf breakOf circleOf nestedOf sliderOf spinnerOf playOf objectOf countsOf with-record fileFrom fileOf bodyOf recordOf breaksLength drainAt breaksOf breaksFrom ratioOf starsOf multiplierAt bonusRatioOf legacyAttributesOf difficultyAttributesOf scoreAttributesOf scoreAttributesAt halfSpins hitsOf spinnerScoreOf counted countedAll nestedScoreOf walk after timesIf scoreMultiplierOf comboPortionOf scoreAtComboOf comboProductOf comboPerObjectOf brokenMissCountOf maximumMissCountOf missCountOf scoreBasedOf thresholdOf cappedOf absOf quotientOf weighted heaviest withSliderAcc withoutSliderAcc accuracyOf brokenOf classicOf lazerOf comboBasedOf scoreBasedFor heldOf effectiveOf estimatesOf modsBad hitsExceed exceeds isDue overCombo playScore givenScore playScores decimalUpTo decimalOf valueFrom hexOf floatText putAt behind numberField floatField scoreBasedField mapLine playLine refusedLine playLines fileText inputText add sub mul div neg lt le eq isNan ofInt ofBits toBits toUnsigned round
+unfolding file header circle slider last play partsOf maxOf minOf clampOf roundTiesEvenI32 wordAt bytesOf rootDigits isqrt rooted rootOf powerOf _>>=_ _>>_ refuse_when_ halfSpinPoints legacyOf standardisedOf totalHalfSpins requiredHalfSpins flagAt flagsBad hitresultsOf repeats ticks bonus headerOf breakOf circleOf nestedOf sliderOf spinnerOf playOf objectOf countsOf with-record fileFrom fileOf bodyOf recordOf breaksLength drainAt breaksOf breaksFrom ratioOf starsOf multiplierAt bonusRatioOf legacyAttributesOf difficultyAttributesOf scoreAttributesOf scoreAttributesAt halfSpins hitsOf spinnerScoreOf counted countedAll nestedScoreOf walk after timesIf scoreMultiplierOf comboPortionOf scoreAtComboOf comboProductOf comboPerObjectOf brokenMissCountOf maximumMissCountOf missCountOf scoreBasedOf thresholdOf cappedOf absOf quotientOf weighted heaviest withSliderAcc withoutSliderAcc accuracyOf brokenOf classicOf lazerOf comboBasedOf scoreBasedFor heldOf effectiveOf estimatesOf modsBad hitsExceed exceeds playScore givenScore playScores decimalUpTo decimalOf valueFrom hexOf floatText putAt behind numberField floatField scoreBasedField mapLine playLine refusedLine playLines fileText inputText add sub mul div neg lt le eq isNan ofInt ofBits toBits toUnsigned round
 lists = refl

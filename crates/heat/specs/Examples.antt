@@ -11,7 +11,7 @@ use Rattle.simulator.specs.Attributes.{difficultyAttributesOf, scoreAttributesO
 use Rattle.simulator.specs.Hits.{hitsOf}
 use Rattle.simulator.specs.Nested.{counted, countedAll}
 use Rattle.simulator.specs.Walk.{walk, after}
-use Rattle.play_score.specs.PlayRules.{modsBad, exceeds, hitsExceed, overCombo, isDue, playScore, givenScore}
+use Rattle.play_score.specs.PlayRules.{modsBad, exceeds, hitsExceed, playScore, givenScore}
 use Rattle.scoring.specs.Scores.{Outcome, refusal, values, Scores}
 use Rattle.host.specs.Answer.{playAnswerRefused, singleOf}
 use Rattle.host.specs.declared.answer.PlayAnswer.{PlayAnswer}
@@ -102,5 +102,5 @@ heats =
     ∷ []
 
 heats-left : map (λ (r : Row). heat (r .0) (r .1) (r .2)) heats ≡ map (λ (r : Row). r .3) heats
-unfolding heats heatOf singleOf givenScore modsBad flagsBad playScore exceeds hitsExceed overCombo isDue scoreAttributesAt scoreAttributesOf difficultyAttributesOf after walk hitsOf countedAll counted _>>_ refuse_when_ ofBits lt le eq
+unfolding heats heatOf singleOf givenScore modsBad flagsBad playScore exceeds hitsExceed scoreAttributesAt scoreAttributesOf difficultyAttributesOf after walk hitsOf countedAll counted _>>_ refuse_when_ ofBits lt le eq
 heats-left = refl

@@ -44,7 +44,7 @@ added-is p f (given.Score s) h = go (factorsBad f)
     go false = refl
 
 told-number : (x : Checked PlayScore) → Numbered x → Told (givenAnswer x)
-told-number (refused n) (number l h) = omega (arith, l)
+told-number (refused n) (number h) = omega (arith, h .least)
 told-number (good s) value = tt
 
 told-rule : (x : Checked PlayScore) → Ruled x → Told (givenAnswer x)

@@ -1,5 +1,5 @@
--- Document 01, "What a caller gets" and "A play exceeds its map if ..", computed: 8, 9 and 10 of a play at the edge of each rule, and which of two
--- faults is told.
+-- Document 01, "What a caller gets" and "A play exceeds its map if ..", computed: 8 and 9 of a play at the edge of each rule, and which of two faults
+-- is told.
 use Prim.Native.Nat.{ℕ}
 use mathlib.Core.Path.{_≡_, refl}
 use mathlib.Core.List.{List, [], _∷_, map}
@@ -13,7 +13,7 @@ use Rattle.play_state.specs.declared.LegacyTotalScore.{LegacyTotalScore}
 use Rattle.play_state.specs.declared.LegacyTotalScore.the-variants.{Absent, Present}
 use Rattle.play_state.specs.declared.Play.{Play}
 use Rattle.simulator.specs.declared.attributes.ScoreAttributes.{ScoreAttributes}
-use Rattle.play_score.specs.PlayRules.{modsBad, hitsExceed, exceeds, isDue, overCombo, playScore, givenScore}
+use Rattle.play_score.specs.PlayRules.{modsBad, hitsExceed, exceeds, playScore, givenScore}
 use Rattle.play_score.specs.declared.PlayScore.{PlayScore}
 
 -- four passed objects and their max combo: 2 circles, 2 sliders, which have 1 repeat and 3 ticks. The scores are in no rule
@@ -92,38 +92,38 @@ plays =
     ∷ (play 10 (hit 4 9 2) WithSliderAcc Absent, passed 10, 0)
     ∷ (play 10 (hit 5 9 3) Stable Absent, passed 10, 0)
     ∷ (play 10 (hit 5 9 3) WithoutSliderAcc Absent, passed 10, 0)
-    -- "10: a score-based estimate is due and the passed objects' max combo is above 46,341"
+    -- document 02, §3: no combo of the passed objects is refused, with an estimate due by each judgement and origin or without one
     ∷ (play 1 (judged 1 0 0 0) Stable (Present 0), passed 46341, 0)
-    ∷ (play 1 (judged 1 0 0 0) Stable (Present 0), passed 46342, 10)
-    ∷ (play 1 (judged 0 1 0 0) Stable (Present 0), passed 46342, 10)
-    ∷ (play 1 (judged 0 0 1 0) Stable (Present 0), passed 46342, 10)
-    ∷ (play 0 (judged 0 0 0 1) Stable (Present 0), passed 46342, 10)
-    ∷ (play 1 (judged 1 0 0 0) WithoutSliderAcc (Present 0), passed 46342, 10)
-    -- "A play with origin 1 or without a score has no score-based estimate. If the judgements sum to 0, .. score-based is absent"
+    ∷ (play 1 (judged 1 0 0 0) Stable (Present 0), passed 46342, 0)
+    ∷ (play 1 (judged 0 1 0 0) Stable (Present 0), passed 46342, 0)
+    ∷ (play 1 (judged 0 0 1 0) Stable (Present 0), passed 46342, 0)
+    ∷ (play 0 (judged 0 0 0 1) Stable (Present 0), passed 46342, 0)
+    ∷ (play 1 (judged 1 0 0 0) WithoutSliderAcc (Present 0), passed 46342, 0)
     ∷ (play 1 (judged 1 0 0 0) WithSliderAcc (Present 0), passed 46342, 0)
     ∷ (play 1 (judged 1 0 0 0) Stable Absent, passed 46342, 0)
-    ∷ (play 1 (judged 0 0 0 0) Stable (Present 0), passed 46342, 0)
-    -- "a play then 9 and 10": five judgements, and a combo above that of the objects, where 10 is due too
+    ∷ (play 8200192 (judged 4 0 0 0) Stable (Present 0), passed 8200192, 0)
+    -- .. but 9 is as it was: five judgements, and a combo above that of the objects
     ∷ (play 1 (judged 5 0 0 0) Stable (Present 0), passed 46342, 9)
     ∷ (play 46343 (judged 1 0 0 0) Stable (Present 0), passed 46342, 9)
+    ∷ (play 8200193 (judged 4 0 0 0) Stable (Present 0), passed 8200192, 9)
     ∷ []
 
 play-numbers : map (λ (r : Row). number (playScore (r .0) (r .1))) plays ≡ map (λ (r : Row). r .2) plays
-unfolding plays playScore exceeds hitsExceed overCombo isDue _>>=_ _>>_ refuse_when_
+unfolding plays playScore exceeds hitsExceed _>>=_ _>>_ refuse_when_
 play-numbers = refl
 
--- a play that is given beside the file: "fixed fields in layout order (4 or 8 ..) ..; a play then 9 and 10"
+-- a play that is given beside the file: "fixed fields in layout order (4 or 8 ..) ..; a play then 9 .."
 givens : List Row
 givens =
     (modded 511 0x4059_0000_0000_0000 10 (judged 1 1 1 1) Stable Absent, passed 10, 0)
     ∷ (play 11 (judged 1 1 1 1) Stable Absent, passed 10, 9)
-    ∷ (play 1 (judged 1 0 0 0) Stable (Present 0), passed 46342, 10)
+    ∷ (play 1 (judged 1 0 0 0) Stable (Present 0), passed 46342, 0)
     -- 8 alone: by a flag, and by the rates 0, the next double above 100 and a NaN
     ∷ (modded 512 one 10 (judged 1 1 1 1) Stable Absent, passed 10, 8)
     ∷ (modded 0 0 10 (judged 1 1 1 1) Stable Absent, passed 10, 8)
     ∷ (modded 0 0x4059_0000_0000_0001 10 (judged 1 1 1 1) Stable Absent, passed 10, 8)
     ∷ (modded 0 0x7ff8_0000_0000_0000 10 (judged 1 1 1 1) Stable Absent, passed 10, 8)
-    -- 8 before 9, and before 10
+    -- 8 before 9, and where neither the judgements nor the combo exceed the map
     ∷ (modded 512 one 11 (judged 1 1 1 1) Stable Absent, passed 10, 8)
     ∷ (modded 0 0 11 (judged 1 1 1 1) Stable Absent, passed 10, 8)
     ∷ (modded 512 one 1 (judged 1 0 0 0) Stable (Present 0), passed 46342, 8)
@@ -131,5 +131,5 @@ givens =
     ∷ []
 
 given-numbers : map (λ (r : Row). number (givenScore (r .0) (r .1))) givens ≡ map (λ (r : Row). r .2) givens
-unfolding givens givenScore modsBad flagsBad playScore exceeds hitsExceed overCombo isDue _>>=_ _>>_ refuse_when_ ofBits lt le eq
+unfolding givens givenScore modsBad flagsBad playScore exceeds hitsExceed _>>=_ _>>_ refuse_when_ ofBits lt le eq
 given-numbers = refl

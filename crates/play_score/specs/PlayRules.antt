@@ -1,15 +1,13 @@
--- Document 01, "Records of the map file" and "What a caller gets": what a play is refused for on its map (9 and 10, and 8 of a play that is no
--- record), and its score.
+-- Document 01, "Records of the map file" and "What a caller gets": what a play is refused for on its map (9, and 8 of a play that is no record),
+-- and its score.
 use Prim.Native.Nat.{ℕ}
 use mathlib.Core.Bool.{Bool, true, false, not, _&&_, _||_}
-use lib.Dec.{eqb, ltb}
+use lib.Dec.{ltb}
 use lib.Ieee.{binary64, ofBits, lt, le}
 use Rattle.records.specs.Fields.{isRate}
-use Rattle.rules.specs.Refusals.{Checked, good, refused, _>>=_, _>>_, refuse_when_, PLAY-FIELD, PLAY-EXCEEDS, PLAY-COMBO}
+use Rattle.rules.specs.Refusals.{Checked, good, refused, _>>=_, _>>_, refuse_when_, PLAY-FIELD, PLAY-EXCEEDS}
 use Rattle.play_state.specs.Play.{flagsBad}
 use Rattle.play_state.specs.declared.GameMods.{GameMods}
-use Rattle.play_state.specs.declared.LegacyTotalScore.{LegacyTotalScore}
-use Rattle.play_state.specs.declared.LegacyTotalScore.the-variants.{Absent, Present}
 use Rattle.play_state.specs.declared.OsuHitResults.{OsuHitResults}
 use Rattle.play_state.specs.declared.OsuScoreOrigin.{OsuScoreOrigin}
 use Rattle.play_state.specs.declared.Play.{Play}
@@ -40,23 +38,10 @@ exceeds p a =
     || ltb (a .difficulty .«max_combo») (p .«max_combo»)
     || hitsExceed (p .hitresults) (p .origin) (a .difficulty)
 
-abbrev pub isPresent : LegacyTotalScore → Bool
-isPresent Absent = false
-isPresent (Present n) = true
-
--- "A play with origin 1 or without a score has no score-based estimate. If the judgements sum to 0, .. score-based is absent."
-unfoldable pub isDue : Play → Bool
-isDue p = isClassicOf (p .origin) && isPresent (p .«legacy_total_score») && not (eqb (totalHits (p .hitresults)) 0)
-
--- "10: a score-based estimate is due and the passed objects' max combo is above 46,341"
-unfoldable pub overCombo : Play → OsuDifficultyAttributes → Bool
-overCombo p a = isDue p && ltb 46341 (a .«max_combo»)
-
--- "9: a play exceeds its map"; "a play then 9 and 10"
+-- "9: a play exceeds its map"; "a play then 9 and 10", of which document 02, §3 leaves 9
 unfoldable pub playScore : Play → ScoreAttributes → Checked PlayScore
 playScore p a = do
   refuse PLAY-EXCEEDS when exceeds p a
-  refuse PLAY-COMBO when overCombo p (a .difficulty)
   good (record { attributes = a; estimates = estimatesOf p (a .difficulty) })
 
 -- the answer of a play on attributes: the values, or the number
@@ -72,7 +57,7 @@ givenOf (scored.Score s) = given.Score s
 abbrev pub givenAnswer : Checked PlayScore → GivenPlay
 givenAnswer x = givenOf (scoredOf x)
 
--- "The checks of one record run: .. fixed fields in layout order (4 or 8 ..) ..; a play then 9 and 10"
+-- "The checks of one record run: .. fixed fields in layout order (4 or 8 ..) ..; a play then 9 .."
 unfoldable pub givenScore : Play → ScoreAttributes → Checked PlayScore
 givenScore p a = do
   refuse PLAY-FIELD when modsBad (p .mods)

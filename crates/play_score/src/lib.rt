@@ -5,7 +5,6 @@ use estimates::calculator::is_classic;
 use estimates::score_state::large_ticks;
 use miss_calc::counts::total_hits;
 use play_state::GameMods;
-use play_state::LegacyTotalScore;
 use play_state::OsuHitResults;
 use play_state::OsuScoreOrigin;
 use play_state::Play;
@@ -15,7 +14,7 @@ use rules::refusal;
 use simulator::attributes::OsuDifficultyAttributes;
 use simulator::attributes::ScoreAttributes;
 ghost use mathlib.Core.Path.{_≡_};
-ghost use Rattle.play_score.specs.PlayRules.{modsBad, hitsExceed, exceeds, isPresent, isDue, overCombo, playScore, scoredOf, givenOf, givenAnswer, givenScore};
+ghost use Rattle.play_score.specs.PlayRules.{modsBad, hitsExceed, exceeds, playScore, scoredOf, givenOf, givenAnswer, givenScore};
 
 // The attributes of the passed objects, and what the play is told of its misses.
 pub struct PlayScore {
@@ -32,11 +31,6 @@ pub enum Scored {
 pub enum GivenPlay {
     Score(PlayScore),
     Refused { number: u8, offset: usize },
-}
-
-impl PlayScore {
-    // The Rust's product (max combo - 2) * max combo has 32 bits up to this combo.
-    pub const MAX_COMBO: u32 = 46341;
 }
 
 // Flags and clock rate are the only fields of a play struct that can be out of range.
@@ -77,54 +71,16 @@ fn exceeds_map(play: Play, a: ScoreAttributes) -> bool
     hits_exceed(hits, origin, difficulty)
 }
 
-fn is_present(score: LegacyTotalScore) -> bool
-    ensures { λ r. ⌜ r ≡ isPresent score ⌝ }
-{
-    match score {
-        LegacyTotalScore::Absent => false,
-        LegacyTotalScore::Present(_) => true,
-    }
-}
-
-// Whether the play gets a score-based estimate.
-fn is_estimate_due(play: Play) -> bool
-    ensures { λ r. ⌜ r ≡ isDue play ⌝ }
-{
-    let hits = play.hitresults;
-    let origin = play.origin;
-    let score = play.legacy_total_score;
-    if !is_classic(origin) {
-        return false;
-    }
-    if !is_present(score) {
-        return false;
-    }
-    total_hits(hits) != 0
-}
-
-fn is_over_combo(play: Play, attrs: OsuDifficultyAttributes) -> bool
-    ensures { λ r. ⌜ r ≡ overCombo play attrs ⌝ }
-{
-    if !is_estimate_due(play) {
-        return false;
-    }
-    PlayScore::MAX_COMBO < attrs.max_combo
-}
-
 // The score of a play on the objects that it passed.
 pub fn score_on(play: Play, a: ScoreAttributes) -> Scored
     ensures { λ r. ⌜ r ≡ scoredOf (playScore play a) ⌝ }
 {
-    let difficulty = a.difficulty;
     if exceeds_map(play, a) {
         return Scored::Refused(refusal::PLAY_EXCEEDS);
     }
-    if is_over_combo(play, difficulty) {
-        return Scored::Refused(refusal::PLAY_COMBO);
-    }
     Scored::Score(PlayScore {
         attributes: a,
-        estimates: calculate(play, difficulty),
+        estimates: calculate(play, a.difficulty),
     })
 }
 
@@ -138,7 +94,7 @@ pub fn given(scored: Scored) -> GivenPlay
     }
 }
 
-// The score of a given play: 8, then 9 and 10.
+// The score of a given play: 8, then 9.
 pub fn score_given(play: Play, a: ScoreAttributes) -> GivenPlay
     ensures { λ r. ⌜ r ≡ givenAnswer (givenScore play a) ⌝ }
 {

@@ -61,7 +61,7 @@ pub extern "C" fn pjp_board_words(count: usize) -> usize
     Entry::PLACE_WORDS * size_of(count).cap
 }
 
-// What a map file holds, by the checks of its records; 9 and 10 of its plays are left to the calls that score.
+// What a map file holds, by the checks of its records; 9 of its plays is left to the calls that score.
 #[no_mangle]
 pub extern "C" fn pjp_read_map(file: &[u8]) -> MapInfo
     ensures { λ r. ⌜ r ≡ mapInfoOf (answerOf (fileOf (now (file .entry)))) ⌝ }

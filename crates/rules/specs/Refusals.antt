@@ -64,9 +64,7 @@ PLAY-FIELD = 8
 abbrev pub PLAY-EXCEEDS : ℕ
 PLAY-EXCEEDS = 9
 
--- "a score-based estimate is due and the passed objects' max combo is above 46,341"
-abbrev pub PLAY-COMBO : ℕ
-PLAY-COMBO = 10
+-- 10 is given by no call: document 02, §3 took it away ("Number 10 and its edge in document 01 go")
 
 -- "the board has fewer than 26 × C words, or the start table fewer numbers than objects"
 abbrev pub ROOM : ℕ

@@ -17,7 +17,7 @@ pub const PLAY_FIELD: u8 = 8;
 
 pub const PLAY_EXCEEDS: u8 = 9;
 
-pub const PLAY_COMBO: u8 = 10;
+// 10 is given by no call.
 
 pub const ROOM: u8 = 11;
 

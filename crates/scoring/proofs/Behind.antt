@@ -45,7 +45,7 @@ record-read : (p : Play) → PlaySized p → playOf (playBytes p ++ []) ≡ ((re
 unfolding modsBad
 record-read p v = play-read p [] v
 
--- "put after the map in the file, gets that same number": 8, then 9 and 10, at the play's own offset; and the values of the play where it gets none
+-- "put after the map in the file, gets that same number": 8, then 9, at the play's own offset; and the values of the play where it gets none
 pub behind-map : (m : Map) (p : Play) → MapWithin m → PlaySized p
     → scoresOf (fileOf (mapFile m ++ playBytes p))
     ≡ then (at-offset (length (mapFile m)) (givenScore p (scoreAttributesAt m (p .«passed_objects»)))) (λ s. values (record { map = m; plays = s ∷ [] }))

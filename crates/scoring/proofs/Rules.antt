@@ -31,9 +31,9 @@ use Rattle.simulator.specs.declared.attributes.ScoreAttributes.{ScoreAttributes
 use Rattle.play_score.specs.PlayRules.{playScore, givenScore}
 use Rattle.scoring.specs.Scores.{Outcome, refusal, values, at-offset, then, playScoreOn, playScores, scoresOf}
 
--- the rules of a map file and its plays are numbered 2 to 10
+-- the rules of a map file and its plays are numbered 2 to 9
 abbrev pub IsRule : ℕ → Type 0
-IsRule n = (2 ≤ n) × (n ≤ 10)
+IsRule n = (2 ≤ n) × (n ≤ 9)
 
 -- a value, or a rule's number
 pub data Ruled {A : Type 0} : Checked A → Type 0 where
@@ -77,9 +77,6 @@ eight = (omega arith, omega arith)
 
 nine : IsRule 9
 nine = (omega arith, omega arith)
-
-ten : IsRule 10
-ten = (omega arith, omega arith)
 
 -- ---- the fields
 ruled-timed : (d : Double) → Ruled (timed d)
@@ -153,7 +150,7 @@ ruled-record r c =
     ruled-when 2 _ _ two (ruled-when 3 _ _ three (ruled-when 6 _ _ six (ruled-bind (bodyOf r (wordAt r 0 2)) _ (ruled-body r (wordAt r 0 2)) (λ f. ruled-when 7 _ _ seven fine))))
 
 -- ---- the file
-data RuledFile : Result → Type 0 where
+pub data RuledFile : Result → Type 0 where
   fine : {f : File} → RuledFile (accepted f)
   rule : {n at : ℕ} {f : File} → IsRule n → RuledFile (refusedAt n at f)
 
@@ -183,14 +180,14 @@ ruled-from (suc fuel) s f h =
     go more true e (refused n) q (rule r) = rule r
     go more true e (good r) q k = more r q (ltb-true (f .at) (length s) e)
 
-ruled-file : (s : List ℕ) → RuledFile (fileOf s)
+pub ruled-file : (s : List ℕ) → RuledFile (fileOf s)
 unfolding fileOf
 ruled-file s = ruled-from (suc (length s)) s nothingRead (omega arith)
 
 -- ---- the plays
 pub ruled-score-of : (p : Play) (a : ScoreAttributes) → Ruled (playScore p a)
 unfolding playScore
-ruled-score-of p a = ruled-when 9 _ _ nine (ruled-when 10 _ _ ten fine)
+ruled-score-of p a = ruled-when 9 _ _ nine fine
 
 -- of a play that is given beside its map
 pub ruled-given : (p : Play) (a : ScoreAttributes) → Ruled (givenScore p a)

@@ -163,7 +163,7 @@ fn whole_map(case: &Case, original: &Original, samples: Samples) -> [f64; 3] {
             },
             &mut || {
                 let play = &case.all_passed[turns.next()];
-                black_box(original.estimates(black_box(play)));
+                black_box(original.widened_estimates(black_box(play)));
             },
         ],
     );

@@ -278,19 +278,14 @@ pub fn plays_of_different_counts() -> MapFile {
     map
 }
 
-/// Plays that each passed all objects but the last, which are as many sliders as a map may have, and as long ones. They
-/// have no score, since rule 10 would refuse it behind such a combo.
+/// Plays that each passed all objects but the last, which are as many sliders as a map may have, and as long ones.
 pub fn plays_of_all_but_the_last() -> MapFile {
     const PLAYS: usize = 400;
     let r = &mut Random::new(6, PLAYS as u64);
     let mut map = map_of(MAX_OBJECTS, |r| objects::slider(r, MAX_NESTED));
     let passed = MAX_OBJECTS - 1;
     let combo = combos(&map)[passed];
-    let plays = (0..PLAYS).map(|_| Play {
-        score: None,
-        ..play(r, passed, combo)
-    });
-    map.plays = plays.collect();
+    map.plays = (0..PLAYS).map(|_| play(r, passed, combo)).collect();
     map
 }
 

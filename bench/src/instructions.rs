@@ -179,7 +179,7 @@ fn one_plain_edit(board: &mut Lent, edit: &Edit) -> Result<(), u8> {
 #[unsafe(export_name = "bench_walk")]
 #[inline(never)]
 fn one_walk(original: &Original, play: &Play) -> Estimates {
-    original.estimates(play)
+    original.widened_estimates(play)
 }
 
 #[cfg(test)]

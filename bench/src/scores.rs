@@ -55,7 +55,7 @@ fn of_files(maps: &[MapFile], samples: Samples) -> ScoreTimes {
             },
             &mut || {
                 let turn = turns.next();
-                black_box(originals[turn].estimates(black_box(&maps[turn].plays[0])));
+                black_box(originals[turn].widened_estimates(black_box(&maps[turn].plays[0])));
             },
         ],
     );

@@ -17,7 +17,7 @@ typedef struct {
     unsigned objects, turns, times, nested, spinners, seconds;
 } style;
 
-/* The bonus of the maps of 200, 700 and 5,000 objects is soon so near its limit that edits get 7, and the combo of 300 objects gives reads 10. */
+/* The bonus of the maps of 200, 700 and 5,000 objects is soon so near its limit that edits get 7, and the combo of 300 objects passes 46,341. */
 static const style STYLES[] = {
     {0, 400, 4, 0, 0, 0},           {1, 800, 0, 1000, 60, 3600},    {2, 800, 2, 1000, 60, 3600},  {3, 800, 256, 1000, 40, 3600},
     {5, 1600, 6, 1000, 40, 3600},   {64, 2400, 10, 1000, 30, 3600}, {65, 4000, 0, 40, 30, 3600},  {200, 4000, 2, 10, 98, 3600},
@@ -46,7 +46,8 @@ static pjp_settings settings;
 static double times[MAX_TIMES + 3]; /* the last but one begins a break too many, the last is out of range */
 static object objects[PJP_MAX_OBJECTS];
 static memory board, fresh;
-static unsigned edits[256], reads[256], factor_reads[256], other_reads[256], broken; /* the last: reads whose play has slider breaks */
+static unsigned edits[256], reads[256], factor_reads[256], other_reads[256];
+static unsigned broken, marathons; /* reads whose play has slider breaks, and whose play has a score-based estimate on more combo than 46,341 */
 static unsigned heats[256], heat_plays[256];
 
 static void hold(int is_so, const char *claim, size_t number) {
@@ -435,6 +436,7 @@ static void read_turn(void) {
     reads[found.alone.status]++;
     factor_reads[found.with.status]++;
     broken += found.with.slider_breaks.aim > 0 && found.with.slider_breaks.speed > 0;
+    marathons += found.alone.attributes.max_combo > 46341 && found.alone.estimates.has_score_based;
 }
 
 static pjp_settings draw_bad_settings(void) {
@@ -557,6 +559,7 @@ static void print_counts(const char *calls, const unsigned *counts, const uint8_
     unsigned i;
     for (; *expected; expected++)
         hold(counts[*expected] > 0, "some calls are refused by", *expected);
+    hold(counts[10] == 0, "no call is refused by", 10);
     printf("  %s: %u good", calls, counts[PJP_GOOD]);
     for (i = 1; i < 256; i++)
         if (counts[i])
@@ -566,8 +569,8 @@ static void print_counts(const char *calls, const unsigned *counts, const uint8_
 
 int main(int argc, char **argv) {
     static const uint8_t OF_EDITS[] = {PJP_CUT, PJP_MARK, PJP_RANGE, PJP_NESTED, PJP_COUNT, PJP_BONUS, PJP_ROOM, PJP_PLACE, 0};
-    static const uint8_t OF_READS[] = {PJP_PLAY_FIELD, PJP_PLAY_EXCEEDS, PJP_PLAY_COMBO, 0}, OF_OTHERS[] = {PJP_RANGE, PJP_COUNT, PJP_ROOM, 0};
-    static const uint8_t OF_FACTOR_READS[] = {PJP_PLAY_FIELD, PJP_PLAY_EXCEEDS, PJP_PLAY_COMBO, PJP_FACTOR, 0}, OF_HEATS[] = {PJP_CUT, PJP_HEAT, 0};
+    static const uint8_t OF_READS[] = {PJP_PLAY_FIELD, PJP_PLAY_EXCEEDS, 0}, OF_OTHERS[] = {PJP_RANGE, PJP_COUNT, PJP_ROOM, 0};
+    static const uint8_t OF_FACTOR_READS[] = {PJP_PLAY_FIELD, PJP_PLAY_EXCEEDS, PJP_FACTOR, 0}, OF_HEATS[] = {PJP_CUT, PJP_HEAT, 0};
     char *end = NULL;
     seed = argc == 2 ? strtoull(argv[1], &end, 10) : 0;
     if (!end || end == argv[1] || *end) {
@@ -582,6 +585,8 @@ int main(int argc, char **argv) {
     print_counts("reads with factors", factor_reads, OF_FACTOR_READS);
     hold(broken > 0, "some plays have slider breaks, not", broken);
     printf("  slider breaks: in %u of them\n", broken);
+    hold(marathons > 0, "some plays have an estimate above a combo of 46,341, not", marathons);
+    printf("  score-based estimates above a combo of 46,341: in %u of them\n", marathons);
     print_counts("reads of another map", other_reads, OF_OTHERS);
     print_counts("heats", heats, OF_HEATS);
     print_counts("plays of heats", heat_plays, OF_READS);

@@ -28,7 +28,8 @@
 extern "C" {
 #endif
 
-/* ---- status: 0, or why a call was refused. The first check that fails stands; each function says in which order it checks. */
+/* ---- status: 0, or why a call was refused. The first check that fails stands; each function says in which order it checks. No call gives 10, and it
+ * stays free: document 01 gave it for a max combo above 46,341, which request 3 of document 02 admits. */
 #define PJP_GOOD 0
 #define PJP_CUT 2           /* the input ends inside a record, or one byte is left for a mark */
 #define PJP_MARK 3          /* a mark is unknown or out of order, or the input is empty; in an edit also bytes behind the record */
@@ -38,7 +39,6 @@ extern "C" {
 #define PJP_BONUS 7         /* the legacy bonus of all objects is above 2,147,483,647 */
 #define PJP_PLAY_FIELD 8    /* a field of a play is out of range */
 #define PJP_PLAY_EXCEEDS 9  /* a play exceeds its map: judgements, max combo, or with origin 1 its slider end or large tick hits */
-#define PJP_PLAY_COMBO 10   /* a score-based estimate is due and the passed objects' max combo is above 46,341 */
 #define PJP_ROOM 11         /* too few words for the board, or too few numbers in the start table */
 #define PJP_PLACE 12        /* the edited place is not below the object count */
 #define PJP_BOARD 13        /* a word of the board or a start that the call reads is out of its limits: no build made them */
@@ -179,14 +179,14 @@ typedef struct {
 size_t pjp_board_words(size_t count);
 
 /* Reads a map file and counts. Refuses what is wrong with its records, PJP_CUT to PJP_PLAY_FIELD, in their order; whether its plays exceed the map
- * (PJP_PLAY_EXCEEDS, PJP_PLAY_COMBO) is checked by the calls below. */
+ * (PJP_PLAY_EXCEEDS) is checked by the calls below. */
 pjp_map_info pjp_read_map(const uint8_t *file, size_t length);
 
-/* The score of all objects of a map file. Refuses a file that breaks a rule, PJP_CUT to PJP_PLAY_COMBO, its plays included; so do the next five. */
+/* The score of all objects of a map file. Refuses a file that breaks a rule, PJP_CUT to PJP_PLAY_EXCEEDS, its plays included; so do the next five. */
 pjp_map_answer pjp_score_map(const uint8_t *file, size_t length);
 
 /* The score of a play that is given beside a map file. Behind the whole file, with offset 0: PJP_PLAY_FIELD if a field of the play is out of range
- * (flags, clock rate, origin, has_score, a score without has_score), then PJP_PLAY_EXCEEDS, then PJP_PLAY_COMBO. */
+ * (flags, clock rate, origin, has_score, a score without has_score), then PJP_PLAY_EXCEEDS. */
 pjp_play_answer pjp_score_play(const uint8_t *file, size_t length, pjp_play play);
 
 /* What pjp_score_play gives, and the slider breaks by two factors. Refuses what pjp_score_play refuses, then with offset 0 PJP_FACTOR. */
@@ -219,7 +219,7 @@ pjp_status pjp_edit(
 /* The score of a play on the first objects of a board for `count` objects. `settings` are the map's, `breaks` the start and the end of each of its
  * breaks in turn, so `times` is twice the breaks (pjp_copy_breaks). On a board that a build made and only edits changed, with the map's count, it is
  * what pjp_score_play gives for the map as the edits left it, in a few steps. Refuses with offset 0: PJP_COUNT, PJP_ROOM, PJP_RANGE for settings and
- * breaks, PJP_PLAY_FIELD, PJP_BOARD or PJP_BONUS by what it reads, PJP_PLAY_EXCEEDS, PJP_PLAY_COMBO. It writes nothing. */
+ * breaks, PJP_PLAY_FIELD, PJP_BOARD or PJP_BONUS by what it reads, PJP_PLAY_EXCEEDS. It writes nothing. */
 pjp_play_answer pjp_read(
     const uint64_t *board,
     size_t words,

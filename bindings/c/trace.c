@@ -18,7 +18,7 @@ static void hold(int is_so, const char *claim) {
 }
 
 /* ---- the stream: frames of a length and as many bytes, little-endian as this machine */
-static uint8_t frame[1 << 20];
+static uint8_t frame[1 << 24]; /* longer than a file of 8,192 sliders of 1,000 items */
 static size_t frame_length;
 
 static int read_frame(void) {
@@ -190,7 +190,7 @@ static void trace_file(void) {
     unsigned i, plays = 0;
     pjp_play_answer listed, given;
     if (map.status != PJP_GOOD) {
-        hold(map.status == PJP_PLAY_EXCEEDS || map.status == PJP_PLAY_COMBO || (info.status == map.status && info.offset == map.offset),
+        hold(map.status == PJP_PLAY_EXCEEDS || (info.status == map.status && info.offset == map.offset),
              "a file is refused alike by read_map and score_map");
         hold_no_attributes(&map.attributes);
         print_refused(map.status, map.offset);

@@ -1,7 +1,10 @@
 //! Makes the modules of the crate out of the original text.
 //!
-//! Nothing of that text is changed but for the three substitutions below. Some
-//! files lean on absent ones; of these, whole items are cut out by markers.
+//! Nothing of that text is changed but for the substitutions below. Some files
+//! lean on absent ones; of these, whole items are cut out by markers.
+//!
+//! The miss calculator stands here twice, with its product as it is and widened,
+//! and so does the calculator, which asks the one or the other.
 
 use std::path::{Path, PathBuf};
 
@@ -34,6 +37,12 @@ const POWER: &str = "(full_combo_threshold / f64::from(state.max_combo).max(1.0)
 const POWER_STAND_IN: &str = "crate::stand_in::power_five_halves(\
     full_combo_threshold / f64::from(state.max_combo).max(1.0))";
 
+/// The product of the score-based estimate, which leaves its type above a max combo
+/// of 46,341, and document 02's form of it: exact, then a float.
+const PRODUCT: &str = "f64::from((attrs.max_combo as i32 - 2) * attrs.max_combo as i32)";
+const PRODUCT_WIDENED: &str =
+    "((i64::from(attrs.max_combo) - 2) * i64::from(attrs.max_combo)) as f64";
+
 /// The exponentials of the curves, and document 02's stand-in for each.
 const EXPONENTIAL: &str = "f64::exp(";
 const EXPONENTIALS: usize = 4;
@@ -50,12 +59,7 @@ impl OsuLegacyScoreSimulator<'_> {
 
 /// Added below the miss calculator's text: its steps, for the generator.
 const MISS_CALCULATOR_ACCESS: &str = "
-pub struct MissSteps {
-    pub maximum_miss_count: f64,
-    pub relevant_combo_per_object: f64,
-    pub score_at_max_combo: f64,
-    pub score_of_remaining_combo: f64,
-}
+use crate::values::MissSteps;
 
 impl OsuLegacyScoreMissCalculator<'_> {
     pub fn steps(&self) -> MissSteps {
@@ -90,14 +94,16 @@ const PERFORMANCE_IMPORTS: &str = "use std::cmp;
 
 use crate::{
     GameMods,
-    osu::{
-        OsuDifficultyAttributes, OsuPerformanceAttributes, OsuScoreState,
-        legacy_score_miss_calc::OsuLegacyScoreMissCalculator,
-    },
+    osu::{OsuDifficultyAttributes, OsuPerformanceAttributes, OsuScoreState},
     util::difficulty::{logistic, smoothstep},
 };
-
 ";
+
+/// Which miss calculator is asked.
+const MISS_CALCULATOR_IMPORT: &str =
+    "use crate::osu::legacy_score_miss_calc::OsuLegacyScoreMissCalculator;\n\n";
+const WIDENED_MISS_CALCULATOR_IMPORT: &str =
+    "use crate::osu::legacy_score_miss_calc_widened::OsuLegacyScoreMissCalculator;\n\n";
 
 /// Closes `calculate` behind its last statement before the relax part.
 const PERFORMANCE_RESULT: &str = "        OsuPerformanceAttributes {
@@ -115,6 +121,9 @@ const OBJECT_IMPORTS: &str = "use rosu_map::{section::hit_objects::Curve, util::
 use crate::model::hit_object::Spinner;
 
 ";
+
+/// The suffix of the modules whose product is widened.
+pub const WIDENED: &str = "_widened";
 
 /// A module for the build folder: its file's name and its text.
 pub struct Module {
@@ -148,30 +157,36 @@ pub fn sources() -> Vec<&'static str> {
 /// All modules, from texts given by path.
 pub fn assemble(read: &dyn Fn(&str) -> Result<String, String>) -> Result<Vec<Module>, String> {
     let mut modules = Vec::new();
-    let mut add = |path: &str, change: fn(&str) -> Result<String, String>| {
+    let mut add = |path: &str, suffix: &str, change: fn(&str) -> Result<String, String>| {
         let text = change(&read(path)?).map_err(|why| format!("{path}: {why}"))?;
-        modules.push(module(path, &text));
+        modules.push(module(path, suffix, &text));
         Ok::<(), String>(())
     };
     for path in WHOLE {
-        add(path, |text| Ok(text.to_owned()))?;
+        add(path, "", |text| Ok(text.to_owned()))?;
     }
-    add(SIMULATOR, simulator)?;
-    add(MISS_CALCULATOR, miss_calculator)?;
-    add(PERFORMANCE, performance)?;
-    add(OBJECT, object)?;
-    add(HIT_OBJECT, hit_object)?;
-    add(DIFFICULTY, difficulty)?;
+    add(SIMULATOR, "", simulator)?;
+    add(MISS_CALCULATOR, "", miss_calculator)?;
+    add(MISS_CALCULATOR, WIDENED, widened_miss_calculator)?;
+    add(PERFORMANCE, "", |text| {
+        performance(text, MISS_CALCULATOR_IMPORT)
+    })?;
+    add(PERFORMANCE, WIDENED, |text| {
+        performance(text, WIDENED_MISS_CALCULATOR_IMPORT)
+    })?;
+    add(OBJECT, "", object)?;
+    add(HIT_OBJECT, "", hit_object)?;
+    add(DIFFICULTY, "", difficulty)?;
     Ok(modules)
 }
 
 /// An inline module, because the inner attributes of the text may not stand
-/// at the top of an included file.
-fn module(path: &str, text: &str) -> Module {
+/// at the top of an included file. The suffix tells two modules of a file apart.
+fn module(path: &str, suffix: &str, text: &str) -> Module {
     let stem = path.trim_end_matches("/mod.rs").trim_end_matches(".rs");
-    let name = stem.rsplit('/').next().unwrap_or(stem);
+    let name = stem.rsplit('/').next().unwrap_or(stem).to_owned() + suffix;
     Module {
-        file: format!("{}.rs", stem.replace('/', "_")),
+        file: format!("{}{suffix}.rs", stem.replace('/', "_")),
         text: format!(
             "#[allow(clippy::all, dead_code, unfulfilled_lint_expectations)]\n\
              pub mod {name} {{\n{text}\n}}\n"
@@ -191,7 +206,15 @@ fn miss_calculator(text: &str) -> Result<String, String> {
     Ok(text + MISS_CALCULATOR_ACCESS)
 }
 
-fn performance(text: &str) -> Result<String, String> {
+fn widened_miss_calculator(text: &str) -> Result<String, String> {
+    let text = replace_once(text, PRODUCT, PRODUCT_WIDENED)?;
+    // A signed number of 32 bits elsewhere would need a look of its own.
+    expect(&text, "i32", 0)?;
+    miss_calculator(&text)
+}
+
+/// The calculator, which asks the miss calculator that is imported.
+fn performance(text: &str, miss_calculator_import: &str) -> Result<String, String> {
     let estimates = cut(
         text,
         "pub(super) struct OsuPerformanceCalculator<'mods> {",
@@ -205,6 +228,7 @@ fn performance(text: &str) -> Result<String, String> {
     let counts = cut(text, "    fn total_imperfect_hits(&self) -> f64 {", None)?;
     Ok([
         PERFORMANCE_IMPORTS,
+        miss_calculator_import,
         estimates,
         PERFORMANCE_RESULT,
         combo_based_and_breaks,

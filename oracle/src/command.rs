@@ -36,6 +36,7 @@ pub fn run(arguments: &[String]) -> Result<(), String> {
         ["spinner-edges"] => spinner::edges(),
         ["spinner-files"] => spinner::files(),
         ["gen", seed, count, to] => generate::good(number(seed)?, number(count)?, to),
+        ["gen-marathon", seed, count, to] => generate::marathons(number(seed)?, number(count)?, to),
         ["gen-damaged", seed, count, to] => generate::damaged(number(seed)?, number(count)?, to),
         ["gen-breaks", seed, count, "-"] => breaks::generate(number(seed)?, number(count)?),
         ["trace-breaks"] => breaks::trace(),

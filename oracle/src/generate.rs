@@ -6,6 +6,7 @@ pub mod calls;
 pub mod damage;
 pub mod heats;
 pub mod heats_report;
+pub mod marathon;
 pub mod mixed;
 pub mod objects;
 pub mod plays;
@@ -38,6 +39,11 @@ pub fn map_file(seed: u64, index: u64) -> MapFile {
     let mut r = Random::new(seed, index);
     let shape = r.weighted(&SHAPES);
     shaped(&mut r, shape)
+}
+
+/// A file of much combo, whatever the index.
+pub fn marathon_file(seed: u64, index: u64) -> MapFile {
+    shaped(&mut Random::new(seed ^ 0x3a4a, index), Shape::Marathon)
 }
 
 /// A file of few objects, whatever the index.

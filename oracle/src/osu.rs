@@ -1,11 +1,13 @@
 original!("osu_attributes.rs");
 original!("osu_legacy_score_miss_calc.rs");
+original!("osu_legacy_score_miss_calc_widened.rs");
 original!("osu_legacy_score_simulator.rs");
 original!("osu_object.rs");
 original!("osu_score_state.rs");
 
 pub mod performance {
     original!("osu_performance_calculator.rs");
+    original!("osu_performance_calculator_widened.rs");
 
     pub use crate::stub::OsuPerformance;
 
@@ -14,8 +16,8 @@ pub mod performance {
         osu::{OsuDifficultyAttributes, OsuPerformanceAttributes, OsuScoreState},
     };
 
-    /// Runs the original's calculator, which is visible in this module only.
-    pub fn estimate(
+    /// Runs the original's calculator as it is. It is visible in this module only.
+    pub fn unchanged_estimate(
         attrs: OsuDifficultyAttributes,
         mods: &GameMods,
         acc: f64,
@@ -24,6 +26,24 @@ pub mod performance {
     ) -> OsuPerformanceAttributes {
         calculator::OsuPerformanceCalculator::new(attrs, mods, acc, state, using_classic_slider_acc)
             .calculate()
+    }
+
+    /// Runs the original's calculator with the one product widened.
+    pub fn widened_estimate(
+        attrs: OsuDifficultyAttributes,
+        mods: &GameMods,
+        acc: f64,
+        state: OsuScoreState,
+        using_classic_slider_acc: bool,
+    ) -> OsuPerformanceAttributes {
+        calculator_widened::OsuPerformanceCalculator::new(
+            attrs,
+            mods,
+            acc,
+            state,
+            using_classic_slider_acc,
+        )
+        .calculate()
     }
 
     /// The original's slider breaks by each factor of the attributes, behind the test that stands

@@ -1,4 +1,5 @@
-//! Reads a map file and refuses as document 01 says, in its order of checks.
+//! Reads a map file and refuses as document 01 says, in its order of checks, without the number
+//! that document 02 took away.
 
 use crate::{
     map::{Break, MapFile, Nested, Object, ObjectKind, Origin, Play, Settings},
@@ -13,7 +14,6 @@ pub const MAX_TIME: f64 = 8_000_000.0;
 pub const MAX_SETTING: f32 = 12.0;
 pub const MAX_CLOCK_RATE: f64 = 100.0;
 pub const MAX_LEGACY_BONUS: u64 = 2_147_483_647;
-pub const MAX_ESTIMATED_COMBO: u32 = 46_341;
 
 /// Bytes of a play's record, its mark included.
 pub const PLAY_RECORD: usize = 44;
@@ -251,9 +251,6 @@ impl<'b> Reader<'b> {
             && (play.slider_end_hits > totals.sliders || play.large_tick_hits > totals.large_ticks);
         if play.judgements() as usize > passed || play.max_combo > totals.combo || exceeds_sliders {
             return Err(9);
-        }
-        if play.score_is_due() && totals.combo > MAX_ESTIMATED_COMBO {
-            return Err(10);
         }
         Ok(())
     }

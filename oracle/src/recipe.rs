@@ -204,7 +204,8 @@ fn parse_expected(text: &str) -> Result<(u8, u32, Vec<u8>), String> {
 
 fn refusal(text: &str) -> Result<u8, String> {
     let number = whole(text)?;
-    if !(1..=15).contains(&number) {
+    // 10 was document 01's, and document 02 took it away.
+    if !(1..=15).contains(&number) || number == 10 {
         return Err(format!("{number} is no refusal's number"));
     }
     Ok(number as u8)
@@ -1129,6 +1130,7 @@ mod tests {
             ("a | file | - | fine", "`ok` or"),
             ("a | file | - | 16 at 0", "no refusal's number"),
             ("a | file | - | 0 at 0", "no refusal's number"),
+            ("a | file | - | 10 at 0", "no refusal's number"),
             ("a | file | hex:00 | 2 at 1", "not below 1"),
             ("a | file | - | ok 0", "1 numbers of plays where 0"),
             (
@@ -1211,9 +1213,10 @@ mod tests {
             rows.len() - files
         );
         for number in 0..=15 {
-            assert!(
+            assert_eq!(
                 rows.iter().any(|row| row.number == number),
-                "no row gets {number}"
+                number != 10,
+                "{number}"
             );
         }
     }

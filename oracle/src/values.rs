@@ -6,8 +6,8 @@ use crate::{
     map::{MapFile, Nested, Object, ObjectKind, Origin, Play},
     model::hit_object::Spinner,
     osu::{
-        OsuDifficultyAttributes, OsuHitResults, OsuScoreOrigin, OsuScoreState,
-        legacy_score_miss_calc::{MissSteps, OsuLegacyScoreMissCalculator},
+        OsuDifficultyAttributes, OsuHitResults, OsuPerformanceAttributes, OsuScoreOrigin,
+        OsuScoreState, legacy_score_miss_calc, legacy_score_miss_calc_widened,
         legacy_score_simulator::OsuLegacyScoreSimulator,
         object::{NestedSliderObject, NestedSliderObjectKind, OsuObject, OsuObjectKind, OsuSlider},
         performance,
@@ -15,6 +15,9 @@ use crate::{
     },
     stub::{BreakPeriod, Curve, HitObject, Pos},
 };
+
+/// The most combo whose product (max combo - 2) × max combo is within the original's i32.
+pub const MAX_UNCHANGED_COMBO: u32 = 46_341;
 
 /// A map in the original's types.
 pub struct Original {
@@ -47,6 +50,15 @@ pub struct Estimates {
     pub combo_based: f64,
     pub score_based: Option<f64>,
     pub effective: f64,
+}
+
+/// The steps of a score-based estimate.
+#[derive(Clone, Debug)]
+pub struct MissSteps {
+    pub maximum_miss_count: f64,
+    pub relevant_combo_per_object: f64,
+    pub score_at_max_combo: f64,
+    pub score_of_remaining_combo: f64,
 }
 
 #[derive(Clone, Debug)]
@@ -118,6 +130,11 @@ impl Original {
     pub fn estimates(&self, play: &Play) -> Estimates {
         self.attributes(play.passed.into()).estimates(play)
     }
+
+    /// One run of the original, for a time.
+    pub fn widened_estimates(&self, play: &Play) -> Estimates {
+        self.attributes(play.passed.into()).widened_estimates(play)
+    }
 }
 
 impl Attributes {
@@ -134,9 +151,46 @@ impl Attributes {
         }
     }
 
+    /// The estimates by the original with its product widened; where the product stays within its
+    /// type, the original as it is runs beside it, and a difference stops the run.
     pub fn estimates(&self, play: &Play) -> Estimates {
+        let widened = self.widened_estimates(play);
+        if self.is_unchanged() {
+            let unchanged = self.unchanged_estimates(play);
+            assert_eq!(widened.bits(), unchanged.bits(), "{self:?}, {play:?}");
+        }
+        widened
+    }
+
+    /// By the original as it is. Where a score-based estimate is due, a max combo above
+    /// `MAX_UNCHANGED_COMBO` leaves a type.
+    pub fn unchanged_estimates(&self, play: &Play) -> Estimates {
+        self.estimates_by(performance::unchanged_estimate, play)
+    }
+
+    /// By the original with its product widened, alone: this is what is timed, one run of the text
+    /// that has a value on every map.
+    pub fn widened_estimates(&self, play: &Play) -> Estimates {
+        self.estimates_by(performance::widened_estimate, play)
+    }
+
+    fn is_unchanged(&self) -> bool {
+        self.max_combo <= MAX_UNCHANGED_COMBO
+    }
+
+    fn estimates_by(
+        &self,
+        estimate: impl Fn(
+            OsuDifficultyAttributes,
+            &GameMods,
+            f64,
+            OsuScoreState,
+            bool,
+        ) -> OsuPerformanceAttributes,
+        play: &Play,
+    ) -> Estimates {
         let accuracy = self.accuracy(play);
-        let values = performance::estimate(
+        let values = estimate(
             self.difficulty(),
             &mods(play),
             accuracy,
@@ -174,15 +228,18 @@ impl Attributes {
         SliderBreaks { aim, speed }
     }
 
-    /// The steps of the score-based estimate. Only for plays that have one.
+    /// The steps of the score-based estimate, as `estimates` has it. Only for plays that have one.
     pub fn miss_steps(&self, play: &Play) -> MissSteps {
-        OsuLegacyScoreMissCalculator::new(
-            &state(play),
-            self.accuracy(play),
-            &mods(play),
-            &self.difficulty(),
-        )
-        .steps()
+        use legacy_score_miss_calc::OsuLegacyScoreMissCalculator as Unchanged;
+        use legacy_score_miss_calc_widened::OsuLegacyScoreMissCalculator as Widened;
+        let (state, mods, difficulty) = (state(play), mods(play), self.difficulty());
+        let accuracy = self.accuracy(play);
+        let widened = Widened::new(&state, accuracy, &mods, &difficulty).steps();
+        if self.is_unchanged() {
+            let unchanged = Unchanged::new(&state, accuracy, &mods, &difficulty).steps();
+            assert_eq!(widened.bits(), unchanged.bits(), "{self:?}, {play:?}");
+        }
+        widened
     }
 
     fn accuracy(&self, play: &Play) -> f64 {
@@ -214,6 +271,32 @@ impl Attributes {
             ..Default::default()
         }
     }
+}
+
+impl Estimates {
+    fn bits(&self) -> ([u64; 3], Option<u64>) {
+        (
+            [self.accuracy, self.combo_based, self.effective].map(bits),
+            self.score_based.map(bits),
+        )
+    }
+}
+
+impl MissSteps {
+    fn bits(&self) -> [u64; 4] {
+        [
+            self.maximum_miss_count,
+            self.relevant_combo_per_object,
+            self.score_at_max_combo,
+            self.score_of_remaining_combo,
+        ]
+        .map(bits)
+    }
+}
+
+/// The bits of a float, the same for all that are not a number.
+fn bits(value: f64) -> u64 {
+    if value.is_nan() { f64::NAN } else { value }.to_bits()
 }
 
 fn mods(play: &Play) -> GameMods {

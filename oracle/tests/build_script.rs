@@ -68,9 +68,10 @@ fn error_with(path: &str, change: impl Fn(String) -> String) -> String {
 }
 
 #[test]
-fn the_text_is_the_original_but_for_three_substitutions() {
+fn the_text_is_the_original_but_for_four_substitutions() {
     let modules = assemble_with("", |text| text).expect("all sources");
-    assert_eq!(modules.len(), assemble::sources().len());
+    // The miss calculator and the calculator stand there twice.
+    assert_eq!(modules.len(), assemble::sources().len() + 2);
     let text_of = |file: &str| {
         let module = modules.iter().find(|module| module.file == file);
         module.expect("a module of that name").text.clone()
@@ -89,10 +90,40 @@ fn the_text_is_the_original_but_for_three_substitutions() {
     let (_, after) = after.split_once(".powf(2.5)").unwrap();
     let text = text_of("osu_legacy_score_miss_calc.rs");
     assert!(text.contains(before) && text.contains(after));
+    let (start, end) = before.split_once(PRODUCT).unwrap();
+    let text = text_of("osu_legacy_score_miss_calc_widened.rs");
+    assert!(text.contains(start) && text.contains(end) && text.contains(after));
+    assert!(!text.contains(PRODUCT));
+    let asks = |file: &str, module: &str| {
+        text_of(file).contains(&format!("{module}::OsuLegacyScoreMissCalculator;"))
+    };
+    for (file, of) in [
+        ("osu_performance_calculator.rs", "legacy_score_miss_calc"),
+        (
+            "osu_performance_calculator_widened.rs",
+            "legacy_score_miss_calc_widened",
+        ),
+    ] {
+        for module in ["legacy_score_miss_calc", "legacy_score_miss_calc_widened"] {
+            assert_eq!(asks(file, module), module == of, "{file}");
+        }
+    }
     let curves = original("util/difficulty.rs").unwrap();
     let text = text_of("util_difficulty.rs");
     assert!(text.contains(&curves.replace("f64::exp(", "crate::stand_in::exp(")));
     assert!(!text.contains("f64::exp("));
+}
+
+#[test]
+fn another_number_of_32_bits_fails() {
+    let path = "osu/legacy_score_miss_calc.rs";
+    let why = error_with(path, |text| {
+        text.replace("let mut miss_count = 0.0;", "let mut miss_count = 0_i32;")
+    });
+    assert!(
+        why.starts_with(path) && why.contains("found 1 times"),
+        "{why}"
+    );
 }
 
 #[test]
@@ -111,9 +142,11 @@ fn an_exponential_more_or_less_fails() {
     }
 }
 
+const PRODUCT: &str = "f64::from((attrs.max_combo as i32 - 2) * attrs.max_combo as i32)";
+
 /// All markers of the build script, by file.
 const MARKERS: [(&str, &[&str]); 5] = [
-    ("osu/legacy_score_miss_calc.rs", &[".powf(2.5)"]),
+    ("osu/legacy_score_miss_calc.rs", &[".powf(2.5)", PRODUCT]),
     ("osu/legacy_score_simulator/mod.rs", &["pub mod gradual;\n"]),
     (
         "osu/performance/calculator.rs",

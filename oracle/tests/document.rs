@@ -1,4 +1,5 @@
-//! The runs, edges and traps of document 01. Run 5 is of the board and has no Rust.
+//! The runs, edges and traps of document 01. Run 5 is of the board and has no Rust; the edge of
+//! combo 46,341 went with document 02.
 
 mod common;
 
@@ -108,24 +109,6 @@ fn a_thousand_nested_items_pass_and_one_more_does_not() {
 }
 
 #[test]
-fn combo_46_341_passes_and_one_more_does_not() {
-    let with_combo = |combo: usize| {
-        let mut objects = vec![ticks(1_000); combo / 1_001];
-        objects.resize(combo / 1_001 + combo % 1_001, circle(0.0));
-        let bytes = encode(&with_play(map(5.0, objects), play(8_192, combo as u32)));
-        assert!(bytes.len() <= PROGRAM_LIMIT);
-        (listing(&read_program(&bytes)), bytes.len() - 44)
-    };
-    let (passed, _) = with_combo(46_341);
-    assert!(
-        passed.contains(" 46341 ") && passed.contains("\nplay 0 "),
-        "{passed}"
-    );
-    let (refused, offset) = with_combo(46_342);
-    assert_eq!(refused, format!("refused 10 at {offset}\n"));
-}
-
-#[test]
 fn the_program_alone_limits_its_input() {
     let mut bytes = encode(&map(5.0, vec![circle(0.0); 6_552]));
     assert_eq!(bytes.len(), PROGRAM_LIMIT - 2);
@@ -134,13 +117,4 @@ fn the_program_alone_limits_its_input() {
     bytes.extend([0; 8]);
     assert_eq!(listing(&read_program(&bytes)), "refused 1 at 0\n");
     assert!(listing(&read_library(&bytes)).starts_with("map 6553 "));
-}
-
-/// Why 10 exists: the original's product of two 32-bit numbers.
-#[test]
-#[should_panic(expected = "overflow")]
-fn the_original_stops_at_combo_46_342() {
-    let mut objects = vec![ticks(1_000); 46];
-    objects.extend(vec![circle(0.0); 296]);
-    Original::new(&map(5.0, objects)).estimates(&play(342, 46_342));
 }

@@ -3,7 +3,7 @@
 use oracle::{
     command::answers,
     encode::encode,
-    generate::{damage::damaged_file, map_file, report::Report},
+    generate::{damage::damaged_file, map_file, marathon, marathon_file, report::Report},
     listing::listing,
     map::{MapFile, Nested, ObjectKind},
     reader::read_library,
@@ -23,6 +23,28 @@ fn a_fifth_of_the_estimates_is_inside() {
     let valued = report.get("plays with a score-based value");
     assert!(
         valued > 1_000 && 5 * report.get("value inside") >= valued,
+        "{report}"
+    );
+}
+
+/// On both sides of the edge, and far above it.
+#[test]
+fn half_of_the_estimates_of_much_combo_are_inside() {
+    let mut report = Report::default();
+    for index in 0..80 {
+        let map = marathon_file(3, index);
+        let bytes = encode(&map);
+        assert!(read_library(&bytes).is_ok(), "file {index}");
+        report.add(&map, bytes.len());
+    }
+    let above = report.get("files above 46,341 combo");
+    assert!(above > 40 && above < 80, "{report}");
+    for label in ["files above 1,000,000 combo", "spinners", "circles"] {
+        assert!(report.get(label) > 0, "{label}\n{report}");
+    }
+    let estimates = report.get(marathon::ESTIMATES);
+    assert!(
+        estimates > 50 && 2 * report.get(marathon::INSIDE) >= estimates,
         "{report}"
     );
 }
@@ -86,7 +108,7 @@ fn the_original_sums_as_document_01_says() {
 
 #[test]
 fn damaged_files_meet_each_refusal() {
-    let mut met = [0_u32; 11];
+    let mut met = [0_u32; 10];
     for index in 0..6_000 {
         let (bytes, _) = damaged_file(6, index);
         let read = read_library(&bytes);

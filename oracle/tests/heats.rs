@@ -45,7 +45,6 @@ fn a_run_meets_what_matters() {
         "plays all refused",
         "plays refused 8",
         "plays refused 9",
-        "plays refused 10",
         "plays refused before the first scored",
         "plays refused between scored ones",
         "plays refused behind the last scored",
@@ -176,7 +175,7 @@ fn a_refused_play_stops_no_other() {
 }
 
 #[test]
-fn ten_is_a_play_s_own() {
+fn plays_of_much_combo_are_scored() {
     let map = map(5.0, vec![ticks(1_000); 47]);
     let play = |passed, score| Play {
         passed,
@@ -185,10 +184,12 @@ fn ten_is_a_play_s_own() {
         ..Play::default()
     };
     let plays = [play(47, Some(1)), play(46, Some(1)), play(47, None)];
+    let original = Original::new(&map);
+    let of_each: String = (0..3)
+        .map(|index| lines(&original, index, &plays[index], None))
+        .collect();
     let text = answer(&map, &plays, 3);
-    assert!(
-        text.starts_with("heat 3\nrefused 10 at 0\nattrs 1 46 "),
-        "{text}"
-    );
-    assert!(text.contains("\nattrs 2 47 "), "{text}");
+    assert_eq!(text, format!("heat 3\n{of_each}"));
+    assert!(text.starts_with("heat 3\nattrs 0 47 "), "{text}");
+    assert!(text.contains(" 47047 "), "{text}");
 }

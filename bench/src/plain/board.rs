@@ -98,7 +98,8 @@ pub fn read(
     }
     score::check(play, &sum)?;
     let attributes = score::attributes(&sum, settings, breaks, ends);
-    let estimates = attributes.estimates(play);
+    // One run of the original: `estimates` runs its text twice, to compare.
+    let estimates = attributes.widened_estimates(play);
     Ok(Score {
         attributes,
         estimates,

@@ -4,7 +4,6 @@ use oracle::{
     Beatmap,
     given::Factors,
     map::{Origin, Play, Settings},
-    reader::MAX_ESTIMATED_COMBO,
     util::ruleset_ext::calculate_difficulty_peppy_stars,
     values::{Attributes, Estimates, SliderBreaks},
 };
@@ -70,7 +69,7 @@ pub fn attributes(
     }
 }
 
-/// 9 for a play that exceeds the objects of a sum, 10 for a score whose estimate they do not allow.
+/// 9 for a play that exceeds the objects of a sum.
 pub fn check(play: &Play, sum: &Entry) -> Result<(), u8> {
     let exceeds_sliders = play.origin == Origin::WithSliderAcc
         && (u64::from(play.slider_end_hits) > sum[SLIDERS]
@@ -80,9 +79,6 @@ pub fn check(play: &Play, sum: &Entry) -> Result<(), u8> {
         || exceeds_sliders
     {
         return Err(9);
-    }
-    if play.score_is_due() && sum[COMBO] > MAX_ESTIMATED_COMBO.into() {
-        return Err(10);
     }
     Ok(())
 }

@@ -179,6 +179,7 @@ fn assert_met(kind: &str, met: &[u32], numbers: &[usize]) {
     for &number in numbers {
         assert!(met[number] >= 10, "{kind}: few of {number} in {met:?}");
     }
+    assert_eq!(met[10], 0, "{kind}: no call gives 10");
 }
 
 #[test]
@@ -189,8 +190,8 @@ fn lists_of_calls() {
     }
     assert_met("builds", &met.builds, &[0, 11]);
     assert_met("edits", &met.edits, &[0, 2, 3, 4, 5, 6, 7, 11, 12]);
-    assert_met("reads", &met.reads, &[0, 4, 6, 8, 9, 10, 11]);
-    let numbers = &[0, 4, 6, 8, 9, 10, 11, 14];
+    assert_met("reads", &met.reads, &[0, 4, 6, 8, 9, 11]);
+    let numbers = &[0, 4, 6, 8, 9, 11, 14];
     assert_met("reads with factors", &met.factor_reads, numbers);
 }
 
@@ -202,8 +203,8 @@ fn lists_of_calls_on_damaged_boards() {
         replay(&list(9, index), Some(damage), &mut met);
     }
     assert_met("edits", &met.edits, &[0, 7, 13]);
-    assert_met("reads", &met.reads, &[0, 9, 10, 13]);
-    assert_met("reads with factors", &met.factor_reads, &[0, 9, 10, 13, 14]);
+    assert_met("reads", &met.reads, &[0, 9, 13]);
+    assert_met("reads with factors", &met.factor_reads, &[0, 9, 13, 14]);
 }
 
 fn scored(file: &[u8]) -> Answer {
@@ -220,7 +221,7 @@ fn files() {
         let file = oracle::encode::encode(&map_file(12, index));
         assert_eq!(number(&scored(&file)), 0);
     }
-    assert_met("files", &met, &[2, 3, 4, 5, 6, 7, 8, 9, 10]);
+    assert_met("files", &met, &[2, 3, 4, 5, 6, 7, 8, 9]);
 }
 
 /// The comparison itself tells answers apart.

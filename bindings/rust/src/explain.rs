@@ -127,8 +127,8 @@ pub fn explain(file: &[u8], error: &Error) -> String {
     let mut text = format!("rule {}: {}\n", error.number(), error.rule());
     let offset = error.offset();
     match error.number() {
-        2..=10 if file.is_empty() => text += "the input is empty\n",
-        2..=10 => {
+        2..=9 if file.is_empty() => text += "the input is empty\n",
+        2..=9 => {
             text += &record(file.get(offset..).unwrap_or_default(), offset);
             text += &more(file, error);
         }
@@ -247,7 +247,7 @@ fn more(file: &[u8], error: &Error) -> String {
                 map.legacy_bonus_score
             )
         }),
-        9 | 10 => passed(before, record).unwrap_or_default(),
+        9 => passed(before, record).unwrap_or_default(),
         _ => String::new(),
     }
 }

@@ -162,7 +162,7 @@ unsafe extern "C" {
     /// How many words the board of that many objects has; 0 above 8,192 objects.
     pub safe fn pjp_board_words(count: usize) -> usize;
 
-    /// Reads a file by the rules 2 to 8, which leaves out 9 and 10 of its plays.
+    /// Reads a file by the rules 2 to 8, which leaves out 9 of its plays.
     pub fn pjp_read_map(file: *const u8, file_len: usize) -> MapInfo;
 
     /// The score of all objects of a file, checked with its plays.

@@ -80,7 +80,8 @@ fn each_outcome_is_that_of_the_single_call() {
     }
 }
 
-/// By 8, 9 and 10, in the first place, in the middle and in the last.
+/// By 8 and 9, in the first place, in the middle and in the last. The combo of the map is above 46,341,
+/// and refuses none.
 #[test]
 fn a_refused_play_is_an_outcome() {
     let nested = [vec![Tick; 999], vec![Tail]].concat();
@@ -90,9 +91,6 @@ fn a_refused_play_is_an_outcome() {
     };
     let file = long.to_bytes();
     let mut plays: Vec<Play> = plays(HEAT_PLAYS);
-    for play in &mut plays {
-        play.score = None;
-    }
     plays[0].mods = Mods::from_bits(512);
     plays[31].max_combo = u32::MAX;
     plays[32].clock_rate = 0.0;
@@ -101,17 +99,19 @@ fn a_refused_play_is_an_outcome() {
         slider_end_hits: 65,
         ..plays[33]
     };
-    plays[62].score = Some(1);
     plays[63].n300 = 64;
     let due = single(&file, &plays);
     let numbers: Vec<u8> = due
         .iter()
         .map(|outcome| outcome.map_or_else(|error| error.number(), |_| 0))
         .collect();
-    for (place, number) in [(0, 8), (31, 9), (32, 8), (33, 9), (62, 10), (63, 9)] {
+    for (place, number) in [(0, 8), (31, 9), (32, 8), (33, 9), (62, 0), (63, 9)] {
         assert_eq!(numbers[place], number, "{place}");
     }
-    assert_eq!(numbers.iter().filter(|&&number| number == 0).count(), 58);
+    assert_eq!(numbers.iter().filter(|&&number| number == 0).count(), 59);
+    let above = due[62].unwrap();
+    assert_eq!(above.attributes.max_combo, 64 * 1_001);
+    assert!(above.estimates.score_based.is_some());
     assert_eq!(heat(&file, &plays), Ok(due.clone()));
     let mut outcomes = marks(HEAT_PLAYS + 1);
     assert_eq!(heat_into(&file, &plays, &mut outcomes), Ok(()));

@@ -5,7 +5,8 @@ use crate::{generate::mixed::mixed_map, values::Original};
 const SIZES: [usize; 4] = [10, 100, 1_000, 8_192];
 const SAMPLES: usize = 101;
 
-/// The time of all values of one play, on objects already read.
+/// The time of all values of one play, on objects already read, by one text of the original: beside
+/// the other it would be that of two.
 pub fn bench() -> Result<(), String> {
     let mut text = String::new();
     for size in SIZES {
@@ -16,7 +17,7 @@ pub fn bench() -> Result<(), String> {
             .map(|_| {
                 let start = Instant::now();
                 for _ in 0..calls {
-                    black_box(original.estimates(black_box(&map.plays[0])));
+                    black_box(original.widened_estimates(black_box(&map.plays[0])));
                 }
                 start.elapsed().as_nanos() as f64 / calls as f64
             })

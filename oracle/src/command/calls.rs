@@ -6,16 +6,24 @@ use std::{
 use super::output_failed;
 use crate::{
     calls::{Call, List},
+    encode::{encode, play_record},
     frame::{read_frame, write_frame},
-    generate::calls::list,
+    generate::{calls::list, marathon},
+    given::checked_play,
+    map::{MapFile, Play},
+    values::Original,
 };
 
 /// Lists of calls, with the counts of what they call.
 pub fn generate(seed: u64, count: u64) -> Result<(), String> {
     let mut output = BufWriter::new(io::stdout().lock());
     let mut counts = BTreeMap::<&str, u64>::new();
+    let mut list_so_far = List::default();
     for call in (0..count).flat_map(|index| list(seed, index)) {
         *counts.entry(name(&call)).or_default() += 1;
+        for label in estimates(&mut list_so_far, &call)? {
+            *counts.entry(label).or_default() += 1;
+        }
         write_frame(&mut output, &call.encode())?;
     }
     output.flush().map_err(output_failed)?;
@@ -25,6 +33,32 @@ pub fn generate(seed: u64, count: u64) -> Result<(), String> {
         .collect();
     let written = io::stderr().write_all(lines.as_bytes());
     written.map_err(|why| format!("standard error: {why}"))
+}
+
+/// What is counted of the call's estimate, if it is a read of the map as it then is.
+fn estimates(list: &mut List, call: &Call) -> Result<&'static [&'static str], String> {
+    match call {
+        Call::Build { .. } | Call::Edit { .. } => {
+            list.answer(call)?;
+        }
+        Call::Read {
+            is_own: true, play, ..
+        } => {
+            if let Some(map) = list.map().filter(|map| marathon::is_marathon(map)) {
+                return Ok(estimates_of(map, play));
+            }
+        }
+        Call::Read { .. } | Call::Board => {}
+    }
+    Ok(&[])
+}
+
+fn estimates_of(map: &MapFile, play: &Play) -> &'static [&'static str] {
+    if checked_play(&encode(map), &play_record(play), None).is_err() {
+        return &[];
+    }
+    let attributes = Original::new(map).attributes(play.passed.into());
+    marathon::labels(&attributes, play)
 }
 
 fn name(call: &Call) -> &'static str {

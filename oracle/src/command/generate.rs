@@ -9,7 +9,8 @@ use super::output_failed;
 use crate::{
     encode::encode,
     frame::write_frame,
-    generate::{damage::damaged_file, map_file, report::Report},
+    generate::{damage::damaged_file, map_file, marathon_file, report::Report},
+    map::MapFile,
     reader::{PROGRAM_LIMIT, read_library},
 };
 
@@ -53,10 +54,19 @@ impl Target {
 
 /// Files that are accepted, with a report.
 pub fn good(seed: u64, count: u64, to: &str) -> Result<(), String> {
+    accepted(map_file, seed, count, to)
+}
+
+/// Files of much combo, with the same report.
+pub fn marathons(seed: u64, count: u64, to: &str) -> Result<(), String> {
+    accepted(marathon_file, seed, count, to)
+}
+
+fn accepted(file: fn(u64, u64) -> MapFile, seed: u64, count: u64, to: &str) -> Result<(), String> {
     let mut target = Target::new(to)?;
     let mut report = Report::default();
     for index in 0..count {
-        let map = map_file(seed, index);
+        let map = file(seed, index);
         let bytes = encode(&map);
         if let Err(refusal) = read_library(&bytes) {
             return Err(format!(

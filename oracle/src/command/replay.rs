@@ -3,17 +3,14 @@ use std::fs;
 use super::{answers::answers, table::rows};
 use crate::{
     frame::write_frame,
-    listing::refusal_line,
-    reader::Refusal,
+    listing::{listing, refusal_line},
+    reader::{Refusal, read_library},
     recipe::{Kind, Row},
 };
 
-/// The front of a listing without a refusal, for the rows of which the table says no more.
-const ACCEPTED: &str = "map ";
-
 /// Writes the input of the replay program: the table's rows for a listing, then accepted files
 /// with the original's listings. A row is its kind (0 program, 1 file, 2 accepted file), a frame
-/// with the text that is due, and a frame with the file.
+/// with the text that is due, and a frame with the file. All texts are whole listings.
 pub fn write(table: &str, seed: u64, count: u64, path: &str) -> Result<(), String> {
     let mut out = Vec::new();
     let mut refusals = 0;
@@ -38,10 +35,10 @@ pub fn write(table: &str, seed: u64, count: u64, path: &str) -> Result<(), Strin
     super::write_out(report.as_bytes())
 }
 
-/// What the table says of a listing. Only a whole listing ends in a line feed.
+/// What the table says of a listing; where it has no number, the original's.
 fn due_text(row: &Row) -> String {
     if row.number == 0 {
-        return ACCEPTED.to_owned();
+        return listing(&read_library(&row.file));
     }
     refusal_line(&Refusal {
         number: row.number,

@@ -13,7 +13,7 @@ use crate::{
     encode::encode,
     given::{Factors, MAX_FACTOR},
     map::{Origin, Play},
-    reader::{MAX_ESTIMATED_COMBO, read_library},
+    reader::read_library,
     values::{Attributes, Original},
 };
 
@@ -42,22 +42,19 @@ pub fn frame(seed: u64, index: u64) -> Frame {
     // Beside a refused file any play will do.
     let original = Original::new(&read_library(&file).unwrap_or_default());
     let given = (0..r.between(1, 8))
-        .map(|_| given(&mut r, &original, shape))
+        .map(|_| given(&mut r, &original))
         .collect();
     Frame { given, file }
 }
 
-fn given(r: &mut Random, original: &Original, shape: Shape) -> Given {
+fn given(r: &mut Random, original: &Original) -> Given {
     let mut play = if r.percent(40) {
         plays::play(r, original)
     } else {
         broken(r, original)
     };
-    match shape {
-        // Most scores are refused here, above the limit of the combo.
-        Shape::ComboEdge => spoil(r, original, 60, &mut play),
-        _ if r.percent(50) => spoil(r, original, 10, &mut play),
-        _ => {}
+    if r.percent(50) {
+        spoil(r, original, &mut play);
     }
     let mut given = Given::new(&play, factors(r));
     if r.percent(2) {
@@ -118,7 +115,7 @@ fn max_combo(r: &mut Random, a: &Attributes) -> u32 {
 
 /// None, or one whose estimate is from 1 to its cap, often just above 1.
 fn score(r: &mut Random, a: &Attributes, play: &Play) -> Option<u32> {
-    if a.max_combo > MAX_ESTIMATED_COMBO || play.judgements() == 0 || r.percent(30) {
+    if play.judgements() == 0 || r.percent(30) {
         return None;
     }
     let steps = a.miss_steps(play);

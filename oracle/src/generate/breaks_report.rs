@@ -2,6 +2,7 @@
 
 use std::{collections::BTreeMap, fmt};
 
+use super::marathon;
 use crate::{
     breaks::{Frame, Given},
     given::checked_play,
@@ -18,12 +19,13 @@ pub struct BreaksReport {
 }
 
 #[rustfmt::skip]
-const LABELS: [&str; 46] = [
+const LABELS: [&str; 48] = [
     "frames", "files refused", "given plays", "plays refused", "plays with breaks",
     "origin 0", "origin 1", "origin 2", "no judgement", "no 100", "full combo", "combo 0",
     "nf", "ez", "hd", "hr", "fl", "so", "rx", "ap", "sv2",
     "effective 0", "effective above 0 and below 1", "effective 1", "effective between 1 and 2",
     "effective 2", "effective above 2", "effective score-based and no whole number",
+    marathon::ESTIMATES, marathon::INSIDE,
     "factors", "factor 0", "factor -0.0", "factor 10", "factor subnormal", "factor below 1",
     "factor from 1 to below 10",
     "breaks 0", "breaks -0.0", "breaks above 0", "breaks subnormal",
@@ -89,6 +91,9 @@ impl BreaksReport {
         self.count_if("combo 0", play.max_combo == 0);
         for (bit, name) in FLAG_NAMES.into_iter().enumerate() {
             self.count_if(name, play.flags >> bit & 1 == 1);
+        }
+        for label in marathon::labels(a, play) {
+            self.count(label, 1);
         }
         self.values(given, play, a);
     }

@@ -12,7 +12,7 @@ use crate::{
     board::{ENTRY, places},
     calls::{self, Call, List},
     encode::{self, encode},
-    map::{MapFile, Object, ObjectKind, Origin, Play},
+    map::{MapFile, Object, ObjectKind, Play},
     reader::{MAX_CLOCK_RATE, MAX_NESTED, MAX_OBJECTS, MAX_TIME},
     spinner::MAX_DURATION,
     values::Original,
@@ -177,7 +177,7 @@ fn edit(r: &mut Random, made: &Made, shape: Shape) -> Call {
     }
 }
 
-/// Any object; on a map at the limit of its combo or its bonus one that keeps it there.
+/// Any object; on a map at the edge of its combo or the limit of its bonus one that keeps it near.
 fn object(r: &mut Random, shape: Shape) -> Object {
     let kind = match (shape, r.below(100)) {
         (Shape::ComboEdge, 0..=89) => {
@@ -263,14 +263,14 @@ fn read_of(map: &MapFile, is_own: bool, play: Play) -> Call {
     }
 }
 
-/// A play, refused at times by 8, 9 or 10.
+/// A play, refused at times by 8 or 9.
 fn play(r: &mut Random, map: &MapFile, shape: Shape) -> Play {
     let original = Original::new(map);
     let count = map.objects.len() as u64;
-    // On a map at the limit of its combo just the last objects lead over it.
-    let (fewest, due) = match shape {
-        Shape::ComboEdge => (count.saturating_sub(3), 70),
-        _ => (0, 30),
+    // Just the last objects lead over the edge of the combo.
+    let fewest = match shape {
+        Shape::ComboEdge => count.saturating_sub(3),
+        _ => 0,
     };
     let mut play = if r.percent(50) {
         let passed = r.between(fewest, count) as u16;
@@ -278,21 +278,16 @@ fn play(r: &mut Random, map: &MapFile, shape: Shape) -> Play {
     } else {
         plays::play(r, &original)
     };
-    spoil(r, &original, due, &mut play);
+    spoil(r, &original, &mut play);
     play
 }
 
-/// Puts a play out of range or beyond its map at times, or gives it a score with this chance.
-pub fn spoil(r: &mut Random, original: &Original, due: u64, play: &mut Play) {
+/// Puts a play out of range or beyond its map at times.
+pub fn spoil(r: &mut Random, original: &Original, play: &mut Play) {
     match r.below(100) {
         0..=3 => play.flags = r.pick(&[511, 512, 1 << 15, u16::MAX]),
         4..=7 => play.clock_rate = bad_float(r, 0.0, MAX_CLOCK_RATE),
         8..=19 => exceed(r, original, play),
-        // A score that is due: 10 above the limit.
-        20.. if r.percent(due) => {
-            play.origin = r.pick(&[Origin::Stable, Origin::WithoutSliderAcc]);
-            play.score = Some(r.next_u64() as u32);
-        }
         _ => {}
     }
 }

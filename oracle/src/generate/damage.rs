@@ -7,11 +7,10 @@ use crate::{
     encode,
     map::{Break, MapFile, Object, ObjectKind, Origin, Play},
     reader::{
-        MAX_BREAKS, MAX_CLOCK_RATE, MAX_ESTIMATED_COMBO, MAX_NESTED, MAX_OBJECTS, MAX_SETTING,
-        MAX_TIME, read_library,
+        MAX_BREAKS, MAX_CLOCK_RATE, MAX_NESTED, MAX_OBJECTS, MAX_SETTING, MAX_TIME, read_library,
     },
     spinner::MAX_DURATION,
-    values::Original,
+    values::{MAX_UNCHANGED_COMBO, Original},
 };
 
 type Damage = fn(&mut Random, &mut Vec<u8>);
@@ -35,7 +34,7 @@ const DAMAGES: [(u64, (&str, Damage)); 18] = [
     (2, ("128 to 130 breaks", many_breaks)),
     (1, ("8,191 to 8,194 objects", many_objects)),
     (2, ("legacy bonus at its limit", much_bonus)),
-    (4, ("combo at its limit", much_combo)),
+    (4, ("combo at the edge of 32 bits", much_combo)),
 ];
 
 /// The ways to damage the record of one object.
@@ -449,9 +448,9 @@ fn much_bonus(r: &mut Random, bytes: &mut Vec<u8>) {
     }
 }
 
-/// A play on a map with combo 46,340 to 46,342: 10, 9 or none.
+/// A play on a map with combo 46,340 to 46,345: 9, or a value on both sides of the edge.
 fn much_combo(r: &mut Random, bytes: &mut Vec<u8>) {
-    let combo = MAX_ESTIMATED_COMBO - 1 + r.pick(&[0, 1, 2, 2]);
+    let combo = MAX_UNCHANGED_COMBO - 1 + r.below(6) as u32;
     let sliders = combo / 1_001;
     let mut kinds: Vec<_> = (0..sliders)
         .map(|_| objects::slider(r, MAX_NESTED))

@@ -11,7 +11,7 @@ use super::{
 use crate::{
     encode::{encode, play_record},
     heats::{Heat, MAX_PLAYS},
-    map::{Origin, Play},
+    map::Play,
     reader::{MAX_CLOCK_RATE, PLAY_RECORD, read_library},
     values::Original,
 };
@@ -56,13 +56,13 @@ pub fn heat(seed: u64, index: u64) -> Heat {
     let original = Original::new(&read_library(&file).unwrap_or_default());
     if r.percent(6) {
         let play = plays::play(&mut r, &original);
-        file.extend(spoiled(&mut r, &original, shape, play));
+        file.extend(spoiled(&mut r, &original, play));
     }
     let (fewest, most) = r.weighted(&PLAYS);
     let count = r.between(fewest, most);
     Heat {
         outcomes: outcomes(&mut r, count) as u32,
-        plays: records(&mut r, &original, shape, count),
+        plays: records(&mut r, &original, count),
         file,
     }
 }
@@ -81,17 +81,12 @@ fn outcomes(r: &mut Random, plays: u64) -> u64 {
     }
 }
 
-fn records(
-    r: &mut Random,
-    original: &Original,
-    shape: Shape,
-    count: u64,
-) -> Vec<[u8; PLAY_RECORD]> {
-    let is_spoiled = spoiled_places(r, shape, count);
+fn records(r: &mut Random, original: &Original, count: u64) -> Vec<[u8; PLAY_RECORD]> {
+    let is_spoiled = spoiled_places(r, count);
     let record = |is_spoiled: &bool| {
         let play = plays::play(r, original);
         if *is_spoiled {
-            spoiled(r, original, shape, play)
+            spoiled(r, original, play)
         } else {
             play_record(&play)
         }
@@ -99,37 +94,29 @@ fn records(
     is_spoiled.iter().map(record).collect()
 }
 
-/// Which plays are spoiled: none, one at an end or anywhere, some, or all; some where 10 may be due.
-fn spoiled_places(r: &mut Random, shape: Shape, count: u64) -> Vec<bool> {
+/// Which plays are spoiled: none, one at an end or anywhere, some, or all.
+fn spoiled_places(r: &mut Random, count: u64) -> Vec<bool> {
     let last = count.saturating_sub(1);
     let anywhere = r.between(0, last);
-    let (one, chance) = match shape {
-        Shape::ComboEdge => (count, 40),
-        _ => r.weighted(&[
-            (40, (count, 0)),
-            (10, (0, 0)),
-            (10, (last, 0)),
-            (15, (anywhere, 0)),
-            (20, (count, 30)),
-            (5, (count, 100)),
-        ]),
-    };
+    let (one, chance) = r.weighted(&[
+        (40, (count, 0)),
+        (10, (0, 0)),
+        (10, (last, 0)),
+        (15, (anywhere, 0)),
+        (20, (count, 30)),
+        (5, (count, 100)),
+    ]);
     (0..count)
         .map(|place| place == one || r.percent(chance))
         .collect()
 }
 
 /// A play that is out of range or beyond its map, at times just not.
-fn spoiled(r: &mut Random, original: &Original, shape: Shape, mut play: Play) -> [u8; PLAY_RECORD] {
-    match (shape, r.below(8)) {
-        // A score that is due: 10 above the limit of the combo.
-        (Shape::ComboEdge, 0..=6) => {
-            play.origin = r.pick(&[Origin::Stable, Origin::WithoutSliderAcc]);
-            play.score = Some(r.next_u64() as u32);
-        }
-        (_, 0..=3) => exceed(r, original, &mut play),
-        (_, 4) => play.flags = r.pick(&[511, 512, 1 << 15, u16::MAX]),
-        (_, 5) => play.clock_rate = bad_float(r, 0.0, MAX_CLOCK_RATE),
+fn spoiled(r: &mut Random, original: &Original, mut play: Play) -> [u8; PLAY_RECORD] {
+    match r.below(8) {
+        0..=3 => exceed(r, original, &mut play),
+        4 => play.flags = r.pick(&[511, 512, 1 << 15, u16::MAX]),
+        5 => play.clock_rate = bad_float(r, 0.0, MAX_CLOCK_RATE),
         _ => {
             let mut record = play_record(&play);
             spoil_record(r, &mut record);

@@ -1,8 +1,10 @@
 //! What a heat contains.
 
+use super::marathon;
 use crate::{
     heats::Heat,
     map::{MapFile, Play},
+    values::Original,
 };
 
 /// All that is counted of a heat, a label for each time.
@@ -15,6 +17,9 @@ pub fn labels(heat: &Heat) -> Vec<&'static str> {
                 labels.push("heats beside a file with plays");
             }
             scored(heat, &map, &mut labels);
+            if marathon::is_marathon(&map) {
+                estimates(heat, &Original::new(&map), &mut labels);
+            }
         }
         Err(refusal) => labels.push(refused(heat, refusal.number)),
     }
@@ -50,8 +55,8 @@ fn refused(heat: &Heat, number: u8) -> &'static str {
         (15, _) if !heat.has_too_few() => "refused 15 by plays",
         (15, _) if !heat.has_too_many() => "refused 15 by outcomes",
         (15, _) => "refused 15 by both",
-        (8..=10, true) => "refused by a play of the file, 15 due",
-        (8..=10, false) => "refused by a play of the file",
+        (8 | 9, true) => "refused by a play of the file, 15 due",
+        (8 | 9, false) => "refused by a play of the file",
         (_, true) => "refused by the file's map, 15 due",
         (_, false) => "refused by the file's map",
     }
@@ -61,8 +66,7 @@ fn scored(heat: &Heat, map: &MapFile, labels: &mut Vec<&'static str>) {
     let label = |play: Result<Play, u8>| match play {
         Ok(play) => passed(play.passed.into(), map.objects.len()),
         Err(8) => "plays refused 8",
-        Err(9) => "plays refused 9",
-        Err(_) => "plays refused 10",
+        Err(_) => "plays refused 9",
     };
     let of_plays: Vec<&str> = heat.checked_plays().map(label).collect();
     let is_scored = |label: &&str| label.starts_with("plays scored");
@@ -85,6 +89,13 @@ fn scored(heat: &Heat, map: &MapFile, labels: &mut Vec<&'static str>) {
         labels.push("plays all refused");
     }
     labels.extend(of_plays);
+}
+
+fn estimates(heat: &Heat, original: &Original, labels: &mut Vec<&'static str>) {
+    for play in heat.checked_plays().flatten() {
+        let attributes = original.attributes(play.passed.into());
+        labels.extend(marathon::labels(&attributes, &play));
+    }
 }
 
 fn passed(passed: usize, objects: usize) -> &'static str {

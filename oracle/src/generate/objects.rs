@@ -3,21 +3,36 @@
 use super::random::Random;
 use crate::{
     map::{Nested, ObjectKind},
-    reader::{MAX_ESTIMATED_COMBO, MAX_LEGACY_BONUS, MAX_NESTED},
+    reader::{MAX_LEGACY_BONUS, MAX_NESTED, MAX_OBJECTS},
     spinner::{self, MAX_DURATION, half_spins_possible, half_spins_required},
+    values::MAX_UNCHANGED_COMBO,
 };
 
 #[derive(Copy, Clone, Debug)]
 pub enum Shape {
     /// An object count in this range.
     Objects(u64, u64),
-    /// Max combo at or just above the limit of score-based estimates.
+    /// Max combo where the original's product leaves its type, or somewhat above.
     ComboEdge,
+    /// The same, or any combo up to the most that a map can have.
+    Marathon,
     /// A few sliders of up to 1,000 nested items.
     LongNested,
     /// A legacy bonus as high as it may be.
     BonusLimit,
 }
+
+/// Both sides of the combo where the original's product leaves its type.
+const EDGE: (u64, u64) = (
+    MAX_UNCHANGED_COMBO as u64 - 1,
+    MAX_UNCHANGED_COMBO as u64 + 4,
+);
+
+/// 8,192 sliders of 1,000 nested items and a head.
+const MAX_COMBO: u64 = MAX_OBJECTS as u64 * (MAX_NESTED as u64 + 1);
+
+/// Ranges of the nested items of a map's sliders: of few objects, and of thousands.
+const LENGTHS: [(u64, u64); 4] = [(600, 1_000), (600, 1_000), (36, 60), (10, 14)];
 
 /// Weights of circles, sliders and spinners.
 const MIXES: [[u64; 3]; 10] = [
@@ -36,7 +51,20 @@ const MIXES: [[u64; 3]; 10] = [
 pub fn kinds(r: &mut Random, shape: Shape) -> Vec<ObjectKind> {
     match shape {
         Shape::Objects(low, high) => mixed(r, low, high),
-        Shape::ComboEdge => combo_edge(r),
+        Shape::ComboEdge => {
+            let combo = r.weighted(&[(7, EDGE), (2, (46_346, 60_000)), (1, (60_001, 80_000))]);
+            of_combo(r, combo)
+        }
+        Shape::Marathon => {
+            let combo = r.weighted(&[
+                (40, EDGE),
+                (40, (46_346, 200_000)),
+                (15, (200_001, 1_000_000)),
+                (4, (1_000_001, MAX_COMBO)),
+                (1, (MAX_COMBO, MAX_COMBO)),
+            ]);
+            of_combo(r, combo)
+        }
         Shape::LongNested => (0..r.between(1, 6)).map(|_| long_slider(r)).collect(),
         Shape::BonusLimit => bonus_limit(r),
     }
@@ -121,26 +149,32 @@ fn beside(r: &mut Random, edge: f64) -> f64 {
         .min(MAX_DURATION)
 }
 
-/// Max combo 46,341 with all objects, or one more, or well above.
-fn combo_edge(r: &mut Random) -> Vec<ObjectKind> {
-    let goal = MAX_ESTIMATED_COMBO + r.pick(&[0, 0, 0, 1, 2, 1_000]);
+/// Objects whose combo is in this range together.
+fn of_combo(r: &mut Random, (low, high): (u64, u64)) -> Vec<ObjectKind> {
+    let mut left = r.between(low, high);
+    // Sliders so long that no more objects are needed than a map has.
+    let (least, most) = r.pick(&LENGTHS);
+    let least = least.max(left.div_ceil(MAX_OBJECTS as u64) - 1);
+    let most = most.max(least);
+    let others = r.pick(&[0, 0, 10, 50]);
     let mut kinds = Vec::new();
-    let mut combo = 0;
-    while combo < goal {
-        let left = (goal - combo) as usize;
-        let length = r.between(600, MAX_NESTED as u64) as usize;
-        if left > length + 1 {
-            kinds.push(slider(r, length));
-            combo += length as u32 + 1;
+    while left > 0 {
+        let places = (MAX_OBJECTS - kinds.len()) as u64;
+        let has_room = left - 1 <= (places - 1) * (least + 1);
+        // The last one takes the rest.
+        let combo = if has_room && r.percent(others) {
+            1
         } else {
-            // One object takes the rest, or a circle where no slider fits.
-            kinds.push(if left > 1 {
-                slider(r, left - 1)
-            } else {
-                ObjectKind::Circle
-            });
-            combo = goal;
-        }
+            left.min(r.between(least, most) + 1)
+        };
+        kinds.push(match combo {
+            1 if r.percent(20) => ObjectKind::Spinner {
+                duration: r.below(5_000) as f64,
+            },
+            1 => ObjectKind::Circle,
+            _ => slider(r, combo as usize - 1),
+        });
+        left -= combo;
     }
     kinds
 }

@@ -1,11 +1,10 @@
-//! Plays of a generated map. None exceeds its map, and 10 is never due.
+//! Plays of a generated map. None exceeds its map.
 
 use super::{objects::Shape, random::Random};
 use crate::{
     map::{MapFile, Origin, Play},
-    osu::legacy_score_miss_calc::MissSteps,
-    reader::{MAX_CLOCK_RATE, MAX_ESTIMATED_COMBO},
-    values::{Attributes, Original},
+    reader::MAX_CLOCK_RATE,
+    values::{Attributes, MAX_UNCHANGED_COMBO, MissSteps, Original},
 };
 
 pub fn plays(r: &mut Random, map: &MapFile, shape: Shape) -> Vec<Play> {
@@ -167,9 +166,6 @@ fn score(r: &mut Random, a: &Attributes, play: &mut Play) -> Option<u32> {
     if play.origin == Origin::WithSliderAcc || play.judgements() == 0 {
         return r.percent(40).then(|| r.next_u64() as u32);
     }
-    if a.max_combo > MAX_ESTIMATED_COMBO {
-        return None;
-    }
     match r.below(100) {
         0..=11 => None,
         12..=14 => Some(0),
@@ -198,15 +194,35 @@ fn beside_steps(r: &mut Random, a: &Attributes, play: &Play) -> u32 {
 fn inside(r: &mut Random, a: &Attributes, play: &mut Play) -> u32 {
     for _ in 0..6 {
         let steps = a.miss_steps(play);
-        let of_remaining = steps.score_of_remaining_combo;
-        if steps.maximum_miss_count > 1.0 && of_remaining > 0.0 && play.judgements() > 0 {
-            let misses = 1.0 + (steps.maximum_miss_count - 1.0) * r.unit();
-            return score_of(&steps, misses);
+        let most = steps.maximum_miss_count;
+        if let Some(least) = least_misses(&steps)
+            && most > least
+            && play.judgements() > 0
+        {
+            return score_of(&steps, least + (most - least) * r.unit());
         }
         judgements(r, a.objects, play);
-        play.max_combo = max_combo(r, a, play);
+        play.max_combo = if a.max_combo > MAX_UNCHANGED_COMBO {
+            short_combo(r, a.max_combo)
+        } else {
+            max_combo(r, a, play)
+        };
     }
     r.next_u64() as u32 % 100_000
+}
+
+/// The least estimate from 1 on that a score gives, where one does: on a map of much combo the rest
+/// of the score is often more than a score can say.
+fn least_misses(steps: &MissSteps) -> Option<f64> {
+    let room = f64::from(u32::MAX) - steps.score_at_max_combo;
+    let of_remaining = steps.score_of_remaining_combo;
+    (of_remaining > 0.0 && room > 0.0).then(|| (of_remaining / room).max(1.0))
+}
+
+/// A combo of any size: the score of a long one is above all scores on a map of much combo.
+fn short_combo(r: &mut Random, most: u32) -> u32 {
+    let most = most >> r.below(10);
+    r.between(0, most.into()) as u32
 }
 
 /// The score whose estimate is nearest that many misses, where these lie between 1 and their cap.

@@ -2,10 +2,10 @@
 
 use std::{collections::BTreeMap, fmt};
 
+use super::marathon;
 use crate::{
     map::{FLAG_NAMES, MapFile, ObjectKind, Origin, Play},
-    osu::legacy_score_miss_calc::MissSteps,
-    values::{Attributes, Original},
+    values::{Attributes, MissSteps, Original},
 };
 
 /// Counts by label, in the order of `LABELS`.
@@ -17,17 +17,20 @@ pub struct Report {
 }
 
 #[rustfmt::skip]
-const LABELS: [&str; 71] = [
+const LABELS: [&str; 77] = [
     "files", "bytes", "files above 65,536 bytes",
     "files of 0 objects", "files of 1", "files of 2", "files of 3 to 10", "files of 11 to 60",
     "files of 61 to 500", "files of 501 to 4,000", "files of 4,001 to 8,191", "files of 8,192",
     "breaks", "files of 128 breaks", "files of multiplier 0",
+    "files of 46,340 to 46,345 combo", "files above 46,341 combo", "files above 1,000,000 combo",
+    "files of 8,200,192 combo",
     "circles", "sliders", "spinners", "nested items", "sliders of 1,000 nested items",
     "plays", "plays of origin 0", "plays of origin 1", "plays of origin 2",
     "plays without score", "plays of score 0", "plays of score above 2,147,483,647",
     "plays without judgement",
     "plays of 0 passed", "plays beyond the count", "plays of part of the map",
     "max combo 0", "max combo of the map", "passed combo 46,341 with an estimate",
+    marathon::ESTIMATES, marathon::INSIDE,
     "nf", "ez", "hd", "hr", "fl", "so", "rx", "ap", "sv2",
     "rate below 1", "rate 1", "rate above 1",
     "plays with a score-based value",
@@ -56,12 +59,15 @@ impl Report {
         let original = Original::new(map);
         let all = original.attributes(original.object_count());
         self.count_if("files of multiplier 0", all.multiplier == 0);
-        self.most_combo = self.most_combo.max(all.max_combo);
+        self.combo(all.max_combo);
         self.most_legacy_bonus = self.most_legacy_bonus.max(all.legacy_bonus);
         for play in &map.plays {
             let attributes = original.attributes(play.passed.into());
             self.play(play, map.objects.len());
             self.estimates(play, &attributes);
+            for label in marathon::labels(&attributes, play) {
+                self.count(label, 1);
+            }
         }
     }
 
@@ -75,6 +81,15 @@ impl Report {
 
     fn count_if(&mut self, label: &'static str, condition: bool) {
         self.count(label, condition.into());
+    }
+
+    fn combo(&mut self, combo: u32) {
+        self.most_combo = self.most_combo.max(combo);
+        let is_edge = (46_340..=46_345).contains(&combo);
+        self.count_if("files of 46,340 to 46,345 combo", is_edge);
+        self.count_if("files above 46,341 combo", combo > 46_341);
+        self.count_if("files above 1,000,000 combo", combo > 1_000_000);
+        self.count_if("files of 8,200,192 combo", combo == 8_200_192);
     }
 
     fn objects(&mut self, map: &MapFile) {

@@ -181,6 +181,12 @@ pub fn due_score(original: &values::Original, play: &theirs::Play) -> ScoreBits 
     ((&attributes).into(), (&estimates).into())
 }
 
+/// Whether a play has a score-based estimate on more combo than the original's product holds.
+pub fn is_marathon(original: &values::Original, play: &theirs::Play) -> bool {
+    let max_combo = original.attributes(play.passed.into()).max_combo;
+    play.score_is_due() && max_combo > values::MAX_UNCHANGED_COMBO
+}
+
 /// What a play that is given beside an accepted map gets: the refusal's number that its record gets
 /// behind the map, at 0, or the original's values.
 pub fn due_answer(

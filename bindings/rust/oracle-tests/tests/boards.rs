@@ -12,8 +12,8 @@ use oracle::{
     values::Original,
 };
 use oracle_tests::{
-    answer, breaks_answer, due, due_answer, due_breaks_answer, factors, has_breaks, object, play,
-    refused,
+    answer, breaks_answer, due, due_answer, due_breaks_answer, factors, has_breaks, is_marathon,
+    object, play, refused,
 };
 use popejoanplum::Board;
 
@@ -26,6 +26,8 @@ struct Met {
     factor_reads: [u32; 15],
     /// Reads whose play has slider breaks.
     broken: u32,
+    /// Reads with a score-based estimate above the combo that the original's product holds.
+    marathons: u32,
 }
 
 /// An accepted edit's map, or the number of the refusal. A board is always called with its map's
@@ -69,6 +71,8 @@ fn read((board, map, original): &Built, given: &Play, r: &mut Random, met: &mut 
     let due = due_answer(map, original, given);
     assert_eq!(answer(board.read(&play(given))), due);
     met.reads[number(due.as_ref().err())] += 1;
+    let is_counted = due.is_ok() && is_marathon(original, given);
+    met.marathons += u32::from(is_counted);
 
     let beside = breaks::factors(r);
     let due = due_breaks_answer(map, original, given, beside);
@@ -146,6 +150,7 @@ fn edits_and_reads() {
         reads,
         factor_reads,
         broken,
+        marathons,
     } = met;
     println!(
         "builds {builds:?}\nedits  {edits:?}\nreads  {reads:?}, with factors {factor_reads:?}"
@@ -154,12 +159,13 @@ fn edits_and_reads() {
     for number in [0, 2, 3, 4, 5, 6, 7, 12] {
         assert!(edits[number] > 20, "{number}: {edits:?}");
     }
-    for number in [0, 8, 9, 10] {
+    for number in [0, 8, 9] {
         assert!(reads[number] > 20, "{number}: {reads:?}");
     }
-    for number in [0, 8, 9, 10, 14] {
+    for number in [0, 8, 9, 14] {
         assert!(factor_reads[number] > 20, "{number}: {factor_reads:?}");
     }
+    assert!(marathons > 20, "{marathons} with an estimate above 46,341");
     assert!(broken > 100, "{broken} with breaks");
 }
 

@@ -324,7 +324,9 @@ fn every_row_of_the_table() {
         assert_eq!(call(row), due, "line {}, {}", row.line, row.name);
         met[usize::from(row.number)] += 1;
     }
-    assert!(met.iter().all(|&rows| rows > 0), "{met:?}");
+    // No call gives 10.
+    let is_met = |number: usize| (met[number] > 0) == (number != 10);
+    assert!((0..met.len()).all(is_met), "{met:?}");
 }
 
 /// A play that no map refuses.

@@ -9,7 +9,7 @@ use oracle::{
 };
 use oracle_tests::{
     AttributesBits, answer, breaks_answer, due, due_answer, due_breaks_answer, due_score, factors,
-    has_breaks, map_file, refused, score_bits,
+    has_breaks, is_marathon, map_file, refused, score_bits,
 };
 use popejoanplum::{
     Board, Error, HEAT_PLAYS, Map, MapFile, Object, ObjectKind, Score, SliderFactors, heat,
@@ -66,7 +66,7 @@ fn an_index_without_a_play_is_no_refusal() {
 }
 
 /// The plays are those of reads in the oracle's lists of calls, each with the map as it then is: good
-/// ones, and refused by 8, 9 and 10.
+/// ones, and refused by 8 and 9.
 fn plays_beside_maps(mut visit: impl FnMut(&oracle::map::MapFile, &oracle::map::Play)) {
     for index in 0..250 {
         let mut list = oracle::calls::List::default();
@@ -89,25 +89,28 @@ fn number<T>(due: &Result<T, (u8, usize)>) -> usize {
 
 #[test]
 fn scores_of_plays_beside_a_map() {
-    let mut met = [0_u32; 11];
+    let (mut met, mut marathons) = ([0_u32; 10], 0);
     plays_beside_maps(|map, play| {
-        let due = due_answer(map, &Original::new(map), play);
+        let original = Original::new(map);
+        let due = due_answer(map, &original, play);
+        marathons += u32::from(due.is_ok() && is_marathon(&original, play));
         let play = oracle_tests::play(play);
         let ours = oracle_tests::map(map);
         assert_eq!(answer(ours.score_play(&play)), due);
         assert_eq!(answer(score_play(&encode(map), &play)), due);
         met[number(&due)] += 1;
     });
-    for number in [0, 8, 9, 10] {
+    for number in [0, 8, 9] {
         assert!(met[number] > 10, "{met:?}");
     }
+    assert!(marathons > 10, "{marathons} with an estimate above 46,341");
 }
 
 /// Heats of each length, of the plays that the oracle gives beside a file, some of them more than once:
 /// the outcomes are those of the plays alone, refused ones among them, in both forms.
 #[test]
 fn heats_on_a_map() {
-    let mut met = [0_u32; 11];
+    let (mut met, mut marathons) = ([0_u32; 10], 0);
     for index in 0..1_000 {
         let Frame { given, file } = breaks::frame(36, index);
         let Ok(map) = read_library(&file) else {
@@ -136,10 +139,15 @@ fn heats_on_a_map() {
         heat_into(&file, &ours, &mut lent).expect("an accepted file");
         assert_eq!(lent.map(answer)[..due.len()], due);
         due.iter().for_each(|due| met[number(due)] += 1);
+        let scored = plays().zip(&due).filter(|(_, due)| due.is_ok());
+        marathons += scored
+            .filter(|(play, _)| is_marathon(&original, play))
+            .count();
     }
-    for number in [0, 8, 9, 10] {
+    for number in [0, 8, 9] {
         assert!(met[number] > 10, "{met:?}");
     }
+    assert!(marathons > 10, "{marathons} with an estimate above 46,341");
 }
 
 /// With factors a play gets what it gets without them, then 14, then the original's breaks.
@@ -158,7 +166,7 @@ fn slider_breaks_of_plays_beside_a_map() {
         met[number(&due)] += 1;
         broken += u32::from(has_breaks(&due));
     });
-    for number in [0, 8, 9, 10, 14] {
+    for number in [0, 8, 9, 14] {
         assert!(met[number] > 10, "{met:?}");
     }
     assert!(broken > 50, "{broken} with breaks");
@@ -194,7 +202,7 @@ fn slider_breaks_of_plays_that_have_them() {
 /// A damaged file is refused alike by every call that takes one.
 #[test]
 fn refusals_of_damaged_files() {
-    let mut met = [0_u32; 11];
+    let mut met = [0_u32; 10];
     for bytes in damaged_files(6_000) {
         let Err(refusal) = read_library(&bytes) else {
             assert!(score_map(&bytes).is_ok());
@@ -229,12 +237,12 @@ fn refusals_of_damaged_files() {
         assert_eq!(scores.len(), 1);
         assert_eq!(refused(scores[0].as_ref().unwrap_err()), due);
     }
-    for number in [0, 2, 3, 4, 5, 6, 7, 8, 9, 10] {
+    for number in [0, 2, 3, 4, 5, 6, 7, 8, 9] {
         assert!(met[number] > 10, "{met:?}");
     }
 }
 
-/// Without 9 and 10 the first refusal is the same, unless it was one of these.
+/// Without 9 the first refusal is the same, unless it was this.
 #[test]
 fn reading_without_scores() {
     for (map, bytes) in good_files(300) {

@@ -63,7 +63,7 @@ pub struct MapInfo {
 }
 
 /// Reads a file by the rules 2 to 8; 9, which holds a file's plays to its map, is that of the calls
-/// that give scores. It goes record by record: [`score_map`] is faster on long maps.
+/// that give scores.
 pub fn read_map(file: &[u8]) -> Result<MapInfo, Error> {
     // SAFETY: the pointer and the length are those of a slice that lives through the call.
     let info = unsafe { sys::pjp_read_map(file.as_ptr(), file.len()) };

@@ -59,19 +59,11 @@ fn read_bytes(space: &mut [u8]) -> Length {
     }
 }
 
-fn ends_line(text: &[u8]) -> bool {
-    if text.len() == 0 {
-        return false;
-    }
-    text[text.len() - 1] == b'\n'
-}
-
-// Due is the whole listing, or where the table says only that a file is accepted, the front of one, which ends no line.
 fn is_due(text: &[u8], due: &[u8]) -> bool {
-    if !frames::starts_with(text, due) {
+    if text.len() != due.len() {
         return false;
     }
-    !ends_line(due) || text.len() == due.len()
+    frames::starts_with(text, due)
 }
 
 fn compare(text: &[u8], due: &[u8]) -> Outcome {

@@ -96,12 +96,15 @@ pub fn round_ties_even_i32(x: f64) -> i32
 }
 
 // Rust's `x as i32` for an x that is not negative, and 0 for any other: x without its fraction, at most 2 ^ 31 - 1.
+// The sum is x rounded, as above; where that is above x, it is one too many.
 pub fn cut(x: f64) -> u64
     ensures { λ r. ⌜ (r ≡ Ieee.toUnsigned 31 x) × (r < 2 ^ 31) ⌝ }
 {
-    if x > -1.0 {
+    if x > 0.0 {
         if x < 2147483648.0 {
-            std::num::truncating_f64_to_u64(x)
+            let sum = x + WHOLES;
+            let n = f64::to_bits(sum) - WHOLES_BITS as u64;
+            if x < sum - WHOLES { n - 1 } else { n }
         } else {
             I32_MAX
         }

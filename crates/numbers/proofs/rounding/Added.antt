@@ -1,4 +1,4 @@
--- The sum of an x within ±2 ^ 30 and 3 * 2 ^ 51 lies where the floats are the whole numbers, so it is rounded to one, a tie to the even one: 3 * 2 ^ 51 is even, so
+-- The sum of an x within ±2 ^ 31 and 3 * 2 ^ 51 lies where the floats are the whole numbers, so it is rounded to one, a tie to the even one: 3 * 2 ^ 51 is even, so
 -- that is x rounded, and the sum's bits go up with the whole number. Assumes nothing.
 use mathlib.Core.Path.{_≡_, refl, sym, ap, _∙_, subst}
 use Prim.Native.Nat.{ℕ, zero, suc, _+_, _-_, _*_, _/_, _%_, _^_, _≤_, _<_, min, compare, Ordering, Ordering·lt, Ordering·eq, Ordering·gt}
@@ -108,7 +108,7 @@ round-unit p c C lo hi =
     (closest-same (p * 2 ^ 1074) (c * 2 ^ 1074) p c (mul-pos C (pow-pos 1074)) C (mul-right-comm p (2 ^ 1074) c ∙ mul-assoc p c (2 ^ 1074)))
 
 -- its pattern
-bits-at : (v : Float) (q : ℕ) → HasValue v false (q * 2 ^ 1074) (2 ^ 1074) → 2 ^ 52 ≤ q → q < 2 ^ 53 → toBits binary64 v ≡ 1074 * 2 ^ 52 + q
+pub bits-at : (v : Float) (q : ℕ) → HasValue v false (q * 2 ^ 1074) (2 ^ 1074) → 2 ^ 52 ≤ q → q < 2 ^ 53 → toBits binary64 v ≡ 1074 * 2 ^ 52 + q
 unfolding toBits
 bits-at nan q h l u = absurd h
 bits-at (inf s) q h l u = absurd h
@@ -121,14 +121,17 @@ bits-at (fin s m e) q h l u =
 
 -- ---- the sum
 -- 3 * 2 ^ 51, which is even
-abbrev wholes : ℕ
+abbrev pub wholes : ℕ
 wholes = 3 * 2 ^ 50 * 2
 
-abbrev moved : Bool → ℕ → ℕ
+abbrev pub moved : Bool → ℕ → ℕ
 moved s n = cond s (wholes - n) (wholes + n)
 
 nearest-small : (a c : ℕ) → 0 < c → a ≤ 2 ^ 30 * c → closest a c ≤ 2 ^ 30
 nearest-small a c C h = closest-mono a c (2 ^ 30) 1 C (lit< tt) (omega (arith, h))
+
+pub nearest-under : (a c : ℕ) → 0 < c → a ≤ 2 ^ 31 * c → closest a c ≤ 2 ^ 31
+nearest-under a c C h = closest-mono a c (2 ^ 31) 1 C (lit< tt) (omega (arith, h))
 
 rounded-value : (p c n : ℕ) → 0 < c → 2 ^ 52 * c ≤ p → p < 2 ^ 53 * c → closest p c ≡ n → n < 2 ^ 53
     → HasValue (round binary64 false p c) false (n * 2 ^ 1074) (2 ^ 1074)
@@ -136,18 +139,18 @@ rounded-value p c n C lo hi e u =
     subst (λ (x : Float). HasValue x false (n * 2 ^ 1074) (2 ^ 1074)) (sym (round-unit p c C lo hi ∙ ap (λ (z : ℕ). units binary64 false z 1074) e))
     (units-val binary64 false n 1074 (lt-of-lt-of-le (shl-lt 53 1074 u) (pow-mono {i = 53 + 1074} {j = 1074 + 1024} (lit≤ tt))))
 
-sum-value : (s : Bool) (a c : ℕ) → 0 < c → a ≤ 2 ^ 30 * c
+sum-value : (s : Bool) (a c : ℕ) → 0 < c → a ≤ 2 ^ 31 * c
     → HasValue (sum binary64 s a false (wholes * c) c) false (moved s (closest a c) * 2 ^ 1074) (2 ^ 1074)
 unfolding sum
 sum-value false a c C h =
     rounded-value (a + wholes * c) c (wholes + closest a c) C (omega (arith, h)) (omega (arith, h, C)) (closest-more (3 * 2 ^ 50) a c C)
-    (omega (arith, nearest-small a c C h))
+    (omega (arith, nearest-under a c C h))
 sum-value true a c C h =
     let l : a < wholes * c = omega (arith, h, C) in
     rw (lt-ltb a (wholes * c) l)
     (rounded-value (wholes * c - a) c (wholes - closest a c) C (omega (arith, h)) (omega (arith, h, C))
     (omega (arith, closest-less (3 * 2 ^ 50) (wholes * c - a) a c C (omega arith)))
-    (omega (arith, nearest-small a c C h)))
+    (omega (arith, nearest-under a c C h)))
 
 -- ---- the bits, read as a whole number with a sign
 abbrev bitsOf : ℕ
@@ -176,7 +179,7 @@ in-range true (suc n) h =
 abbrev near : Float
 near = ofBits binary64 0x41d0000000000000
 
-abbrev with-wholes : Float → Float
+abbrev pub with-wholes : Float → Float
 with-wholes x = add binary64 x (ofBits binary64 0x4338000000000000)
 
 size-small : (x : Float) → (le (neg near) x && le x near) ≡ true → T (finite x) × (num x ≤ 2 ^ 30 * den x)
@@ -198,22 +201,29 @@ pub record BySum (x : Float) : Type 0 where
   pub is : pos (toBits binary64 (with-wholes x)) -ℤ pos 0x4338000000000000 ≡ roundTiesEvenI32 x
   pub small : mag (roundTiesEvenI32 x) < 2 ^ 31
 
-value-number : (x : Float) (s : Bool) (a c : ℕ) → HasValue x s a c → isNan x ≡ false
+pub value-number : (x : Float) (s : Bool) (a c : ℕ) → HasValue x s a c → isNan x ≡ false
 unfolding isNan
 value-number nan s a c h = absurd h
 value-number (inf t) s a c h = absurd h
 value-number (fin t m e) s a c h = refl
 
-by-value : (s : Bool) (m : ℕ) (e : ℤ) → m * up e ≤ 2 ^ 30 * down e → BySum (fin s m e)
+pub added-value : (s : Bool) (m : ℕ) (e : ℤ) → m * up e ≤ 2 ^ 31 * down e
+    → HasValue (with-wholes (fin s m e)) false (moved s (closest (m * up e) (down e)) * 2 ^ 1074) (2 ^ 1074)
 unfolding add ofBits
+added-value s m e h =
+    let a = m * up e in
+    let c = down e in
+    let sum-is : with-wholes (fin s m e) ≡ sum binary64 s a false (wholes * c) c =
+    ap (λ (z : ℕ). sum binary64 s z false (wholes * c) (c * 1)) (mul-one a) ∙ ap (λ (z : ℕ). sum binary64 s a false (wholes * c) z) (mul-one c) in
+    subst (λ (x : Float). HasValue x false (moved s (closest a c) * 2 ^ 1074) (2 ^ 1074)) (sym sum-is) (sum-value s a c (down-pos e) h)
+
+by-value : (s : Bool) (m : ℕ) (e : ℤ) → m * up e ≤ 2 ^ 30 * down e → BySum (fin s m e)
 by-value s m e h =
     let a = m * up e in
     let c = down e in
     let n = closest a c in
     let few : n ≤ 2 ^ 30 = nearest-small a c (down-pos e) h in
-    let sum-is : with-wholes (fin s m e) ≡ sum binary64 s a false (wholes * c) c =
-    ap (λ (z : ℕ). sum binary64 s z false (wholes * c) (c * 1)) (mul-one a) ∙ ap (λ (z : ℕ). sum binary64 s a false (wholes * c) z) (mul-one c) in
-    let value = subst (λ (x : Float). HasValue x false (moved s n * 2 ^ 1074) (2 ^ 1074)) (sym sum-is) (sum-value s a c (down-pos e) h) in
+    let value = added-value s m e (omega (arith, h)) in
     let bits : toBits binary64 (with-wholes (fin s m e)) ≡ 1074 * 2 ^ 52 + moved s n = bits-at _ (moved s n) value (low s n few) (high s n few) in
     let same : saturated s n ≡ roundTiesEvenI32 (fin s m e) = even-at (fin s m e) s a c (down-pos e) (refl, refl) in
     record {

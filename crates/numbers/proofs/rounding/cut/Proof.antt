@@ -1,33 +1,50 @@
--- `numbers::rounding::cut` is right since below 2 ^ 31 the cut to 64 bits is the cut to 31, and its two tests lead to the ends of the range. Assumes nothing.
-use mathlib.Core.Path.{_≡_, sym, subst, _∙_}
-use Prim.Native.Nat.{ℕ, _^_, _<_}
+-- `numbers::rounding::cut` is right since between its ends the sum is x rounded, which is x without its fraction, or one more. Assumes nothing.
+use mathlib.Core.Path.{sym, subst}
+use mathlib.Core.Bool.{Bool, not}
 use native.Mathlib.Omega.{arith}
-use lib.Dec.{T, lit≤}
-use lib.Ieee.{ofBits, neg, toUnsigned}
+use borrow.Author.Needs.{needs}
+use lib.Dec.{T}
+use lib.Ieee.{ofBits}
 use lib.Ieee.Casts.{toUnsigned-lt}
-use Rattle.numbers.proofs.rounding.Cutting.{cut-low, cut-in, cut-high, below-more}
+use Rattle.numbers.proofs.rounding.Cutting.{CutBySum, cut-low, cut-high, cut-by-sum}
 use Rattle.numbers.proofs.rounding.cut.Statement.{statement}
 use Rattle.numbers.proofs.rounding.cut.Tie as tie
 
-truncating-f64-to-u64-requires : tie.Need-truncating-f64-to-u64-requires
-unfolding ofBits neg
-truncating-f64-to-u64-requires c κs =
-    (subst T (sym (c .before .if1 .taken)) tt, below-more 64 31 (lit≤ tt) (c .before .before .args .x) (c .if2 .taken))
+by-sum : (c : tie.Then2) → CutBySum (c .before .before .args .x)
+unfolding ofBits
+by-sum c = cut-by-sum (c .before .before .args .x) (c .before .if1 .taken) (c .if2 .taken)
+
+float-to-bits-n : tie.Need-float-to-bits-n
+float-to-bits-n c = subst (λ (b : Bool). T (not b)) (sym (by-sum c .number)) tt
+
+cast-n : tie.Need-cast-n
+cast-n c = search needs
+
+sub-n : tie.Need-sub-n
+sub-n c = by-sum c .least
+
+sub-result : tie.Need-sub-result
+sub-result c = omega (arith, by-sum (c .before) .above (c .if3 .taken))
 
 returns : tie.Need-returns
-unfolding ofBits neg
 returns c =
     let x = c .before .before .before .args .x in
-    let e : c .truncating-f64-to-u64 .result ≡ toUnsigned 31 x = c .truncating-f64-to-u64 .ensures ∙ cut-in 64 31 (lit≤ tt) x (c .before .if2 .taken) in
-    (e, subst (λ (n : ℕ). n < 2 ^ 31) (sym e) (toUnsigned-lt 31 x))
+    let e = by-sum (c .before) .above (c .if3 .taken) in
+    (omega (arith, e), omega (arith, e, toUnsigned-lt 31 x))
 
 returns-2 : tie.Need-returns-2
-unfolding ofBits neg
-returns-2 c = (sym (cut-high 31 (c .before .before .args .x) (c .before .if1 .taken) (c .if2 .left)), omega arith)
+returns-2 c =
+    let x = c .before .before .before .args .x in
+    let e = by-sum (c .before) .is (c .if3 .left) in
+    (e, omega (arith, e, toUnsigned-lt 31 x))
 
 returns-3 : tie.Need-returns-3
-unfolding ofBits neg
-returns-3 c = (sym (cut-low 31 (c .before .args .x) (c .if1 .left)), omega arith)
+unfolding ofBits
+returns-3 c = (sym (cut-high 31 (c .before .before .args .x) (c .before .if1 .taken) (c .if2 .left)), omega arith)
+
+returns-4 : tie.Need-returns-4
+unfolding ofBits
+returns-4 c = (sym (cut-low 31 (c .before .args .x) (c .if1 .left)), omega arith)
 
 pub cut-spec : {M : Type 1} → statement M
-cut-spec = tie.close (tie.spec truncating-f64-to-u64-requires returns returns-2 returns-3)
+cut-spec = tie.close (tie.spec float-to-bits-n cast-n sub-n sub-result returns returns-2 returns-3 returns-4)

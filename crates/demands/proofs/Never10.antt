@@ -7,7 +7,7 @@ use Prim.Native.Nat.{ℕ, zero, suc, _<_}
 use native.Mathlib.Omega.{arith}
 use lib.Ieee.{Float}
 use lib.ListN.{length, getD}
-use Rattle.rules.specs.Refusals.{Checked, good, refused, _>>_}
+use Rattle.rules.specs.Refusals.{Checked, good, refused}
 use Rattle.rules.proofs.Laws.{never}
 use Rattle.map_file.specs.File.{Result, accepted, refusedAt, fileOf}
 use Rattle.simulator.specs.Attributes.{scoreAttributesAt}
@@ -18,7 +18,7 @@ use Rattle.play_score.specs.declared.PlayScore.{PlayScore}
 use Rattle.slider_breaks.specs.Given.{GivenBreaks, withBreaks}
 use Rattle.slider_breaks.specs.Given as breaks
 use Rattle.scoring.specs.Scores.{Outcome, refusal, values, Scores, scoresOf, mapScoreOf, givenPlayOf, playAt, listedPlayOf}
-use Rattle.scoring.proofs.Rules.{IsRule, RuledFile, fine, rule, ruled-file, refusal-rule, ruled-given}
+use Rattle.scoring.proofs.Rules.{IsRule, RuledFile, rule, ruled-file, refusal-rule, ruled-given}
 use Rattle.board.specs.Place.{writtenLeft}
 use Rattle.board.specs.Edit.{editOf}
 use Rattle.board.specs.Read.{readOf}

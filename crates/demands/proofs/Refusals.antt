@@ -28,7 +28,6 @@ use Rattle.estimates.specs.Effective.{estimatesOf}
 use Rattle.estimates.proofs.Range.{FromMissesToJudgements, effective-range}
 use Rattle.play_score.specs.PlayRules.{givenAnswer, givenScore}
 use Rattle.play_score.specs.declared.PlayScore.{PlayScore}
-use Rattle.play_score.specs.declared.GivenPlay.the-variants as given
 use Rattle.slider_breaks.specs.Given.{BreaksScore, GivenBreaks, factorsBad, breaksScore, withBreaks}
 use Rattle.slider_breaks.specs.Given as breaks
 use Rattle.slider_breaks.specs.declared.calculator.SliderFactors.{SliderFactors}

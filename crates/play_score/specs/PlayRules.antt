@@ -1,9 +1,8 @@
 -- Document 01, "Records of the map file" and "What a caller gets": what a play is refused for on its map (9, and 8 of a play that is no record),
 -- and its score.
 use Prim.Native.Nat.{ℕ}
-use mathlib.Core.Bool.{Bool, true, false, not, _&&_, _||_}
+use mathlib.Core.Bool.{Bool, not, _&&_, _||_}
 use lib.Dec.{ltb}
-use lib.Ieee.{binary64, ofBits, lt, le}
 use Rattle.records.specs.Fields.{isRate}
 use Rattle.rules.specs.Refusals.{Checked, good, refused, _>>=_, _>>_, refuse_when_, PLAY-FIELD, PLAY-EXCEEDS}
 use Rattle.play_state.specs.Play.{flagsBad}

@@ -12,7 +12,7 @@ use lib.IntN.{ℤ, pos, negsuc, negℤ, _-ℤ_}
 use lib.Ieee.{Float, nan, inf, fin, binary64, up, down, nearest, size, units, round, sum, add, neg, le, isNan, ofBits, toBits}
 use lib.Ieee.Exact.{HasValue, units-val}
 use lib.Ieee.Fits.{down-pos, core, round-is}
-use lib.Ieee.Nearest.{closest, closest-mono, closest-same}
+use lib.Ieee.Nearest.{closest, closest-same}
 use lib.Signed.{mag}
 use lib.Ieee.Scale.{finite}
 use lib.Ieee.Positive.{num, den}
@@ -20,7 +20,7 @@ use lib.Pow.{pow-pos, pow-mono, shl-shr, shl-lt}
 use Rattle.numbers.specs.Rounding.{roundTiesEvenI32, saturated}
 use Rattle.numbers.proofs.Within.{beyond-size, beyond-all}
 use Rattle.numbers.proofs.bits.Fields.{size-is, dropped, powers}
-use Rattle.numbers.proofs.rounding.Closest.{is-lt, is-gt, is-eq}
+use Rattle.numbers.proofs.rounding.Closest.{is-lt, is-gt, is-eq, closest-under}
 use Rattle.numbers.proofs.rounding.Even.{even-at}
 
 -- ---- the nearest whole number, with an even one added, or taken away from an even one
@@ -127,12 +127,6 @@ wholes = 3 * 2 ^ 50 * 2
 abbrev pub moved : Bool → ℕ → ℕ
 moved s n = cond s (wholes - n) (wholes + n)
 
-nearest-small : (a c : ℕ) → 0 < c → a ≤ 2 ^ 30 * c → closest a c ≤ 2 ^ 30
-nearest-small a c C h = closest-mono a c (2 ^ 30) 1 C (lit< tt) (omega (arith, h))
-
-pub nearest-under : (a c : ℕ) → 0 < c → a ≤ 2 ^ 31 * c → closest a c ≤ 2 ^ 31
-nearest-under a c C h = closest-mono a c (2 ^ 31) 1 C (lit< tt) (omega (arith, h))
-
 rounded-value : (p c n : ℕ) → 0 < c → 2 ^ 52 * c ≤ p → p < 2 ^ 53 * c → closest p c ≡ n → n < 2 ^ 53
     → HasValue (round binary64 false p c) false (n * 2 ^ 1074) (2 ^ 1074)
 rounded-value p c n C lo hi e u =
@@ -144,13 +138,13 @@ sum-value : (s : Bool) (a c : ℕ) → 0 < c → a ≤ 2 ^ 31 * c
 unfolding sum
 sum-value false a c C h =
     rounded-value (a + wholes * c) c (wholes + closest a c) C (omega (arith, h)) (omega (arith, h, C)) (closest-more (3 * 2 ^ 50) a c C)
-    (omega (arith, nearest-under a c C h))
+    (omega (arith, closest-under (2 ^ 31) a c C h))
 sum-value true a c C h =
     let l : a < wholes * c = omega (arith, h, C) in
     rw (lt-ltb a (wholes * c) l)
     (rounded-value (wholes * c - a) c (wholes - closest a c) C (omega (arith, h)) (omega (arith, h, C))
     (omega (arith, closest-less (3 * 2 ^ 50) (wholes * c - a) a c C (omega arith)))
-    (omega (arith, nearest-under a c C h)))
+    (omega (arith, closest-under (2 ^ 31) a c C h)))
 
 -- ---- the bits, read as a whole number with a sign
 abbrev bitsOf : ℕ
@@ -222,7 +216,7 @@ by-value s m e h =
     let a = m * up e in
     let c = down e in
     let n = closest a c in
-    let few : n ≤ 2 ^ 30 = nearest-small a c (down-pos e) h in
+    let few : n ≤ 2 ^ 30 = closest-under (2 ^ 30) a c (down-pos e) h in
     let value = added-value s m e (omega (arith, h)) in
     let bits : toBits binary64 (with-wholes (fin s m e)) ≡ 1074 * 2 ^ 52 + moved s n = bits-at _ (moved s n) value (low s n few) (high s n few) in
     let same : saturated s n ≡ roundTiesEvenI32 (fin s m e) = even-at (fin s m e) s a c (down-pos e) (refl, refl) in

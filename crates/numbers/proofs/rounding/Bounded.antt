@@ -1,7 +1,7 @@
 -- A value from -k to k rounds to a whole number from -k to k. Assumes nothing.
 use mathlib.Core.Path.{_≡_, sym, ap, _∙_}
 use Prim.Native.Nat.{ℕ, zero, suc, _*_, _^_, _≤_, _<_, min}
-use native.Mathlib.Nat.{le-trans, le-of-eq, le-of-lt, le-of-mul-le-mul-right, mul-one, mul-right-comm, zero-lt-suc}
+use native.Mathlib.Nat.{le-trans, le-of-eq, le-of-lt, le-of-mul-le-mul-right, mul-one, mul-right-comm}
 use native.Mathlib.Omega.{arith}
 use mathlib.Core.Bool.{Bool, true, false, _&&_, _||_, true≢false}
 use lib.Dec.{T, ltb, eqb, ltb→lt, eqb→eq}
@@ -10,26 +10,22 @@ use lib.Signed.{mag}
 use lib.Ieee.{Float, nan, inf, fin, up, down, le, neg}
 use lib.Ieee.Exact.{HasValue}
 use lib.Ieee.Fits.{down-pos}
-use lib.Ieee.Nearest.{closest, closest-mono}
+use lib.Ieee.Nearest.{closest}
 use Rattle.numbers.specs.Floats.{whole}
 use Rattle.numbers.specs.Rounding.{roundTiesEvenI32, saturated}
 use Rattle.numbers.proofs.Wholes.{whole-is}
-use Rattle.numbers.proofs.rounding.Closest.{closest-lt}
+use Rattle.numbers.proofs.rounding.Closest.{closest-under}
 
 at-most : (a b : ℕ) (x y z : Bool) → (T x → a < b) → (T y → a ≡ b) → T (x || (y && z)) → a ≤ b
 at-most a b true y z f g t = le-of-lt (f tt)
 at-most a b false true z f g t = le-of-eq (g tt)
 at-most a b false false z f g t = absurd t
 
-closest-whole : (k : ℕ) → closest k 1 ≡ k
-closest-whole k = closest-lt k 1 (omega arith) ∙ omega arith
-
 -- a / b at most k rounds to at most k
 closest-most : (a b n d k : ℕ) → 0 < b → 0 < d → n * 1 ≡ k * d → a * d ≤ n * b → closest a b ≤ k
 closest-most a b n d k B D e h =
     let whole-times : a * d ≤ k * b * d = le-trans h (le-of-eq (ap (λ (z : ℕ). z * b) (sym (mul-one n) ∙ e) ∙ mul-right-comm k d b)) in
-    let under : a * 1 ≤ k * b = le-trans (le-of-eq (mul-one a)) (le-of-mul-le-mul-right whole-times D) in
-    le-trans (closest-mono a b k 1 B (zero-lt-suc 0) under) (le-of-eq (closest-whole k))
+    closest-under k a b B (le-of-mul-le-mul-right whole-times D)
 
 mag-saturated : (s : Bool) (n k : ℕ) → n ≤ k → mag (saturated s n) ≤ k
 mag-saturated false n k h = omega arith

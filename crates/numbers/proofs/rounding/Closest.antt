@@ -1,12 +1,12 @@
 -- The whole number nearest to a fraction, by how twice the remainder compares with the divisor. Assumes nothing.
 use mathlib.Core.Path.{_≡_, sym, ap, _∙_, subst}
 use Prim.Native.Nat.{ℕ, zero, suc, _+_, _-_, _*_, _/_, _%_, _^_, _≤_, _<_, compare, Ordering, Ordering·lt, Ordering·eq, Ordering·gt, compare·zero-zero, compare·zero-suc, compare·suc-zero, compare·suc-suc}
-use native.Mathlib.Nat.{le-of-suc-le-suc, not-suc-le-zero, le-trans, mod-eq-of-lt, one-mul, mul-assoc, div-lt-iff-lt-mul, le-div-iff-mul-le, mul-le-mul}
+use native.Mathlib.Nat.{zero-lt-suc, le-of-suc-le-suc, not-suc-le-zero, le-trans, mod-eq-of-lt, one-mul, mul-assoc, div-lt-iff-lt-mul, le-div-iff-mul-le, mul-le-mul}
 use native.Mathlib.Omega.{arith}
 use lib.Pow.{pow-pos, pow-mono, pow-lt, pow-add}
 use lib.Bits.{bitAnd, and-mask}
 use lib.Ieee.{nearest}
-use lib.Ieee.Nearest.{closest, closest-same, nearest-ge}
+use lib.Ieee.Nearest.{closest, closest-mono, closest-same, nearest-ge}
 
 pub is-lt : (a b : ℕ) → a < b → compare a b ≡ Ordering·lt
 is-lt zero zero h = absurd (not-suc-le-zero h)
@@ -32,6 +32,12 @@ closest-gt a d h = ap (λ (o : Ordering). nearest (a / d) o) (is-gt (a % d * 2) 
 
 pub closest-eq : (a d : ℕ) → a % d * 2 ≡ d → closest a d ≡ a / d + a / d % 2
 closest-eq a d h = ap (λ (o : Ordering). nearest (a / d) o) (ap (λ (x : ℕ). compare x d) h ∙ is-eq d)
+
+-- a / c at most k rounds to at most k
+pub closest-under : (k a c : ℕ) → 0 < c → a ≤ k * c → closest a c ≤ k
+closest-under k a c C h =
+    let whole : closest k 1 ≡ k = closest-lt k 1 (omega arith) ∙ omega arith in
+    subst (λ (n : ℕ). closest a c ≤ n) whole (closest-mono a c k 1 C (zero-lt-suc 0) (omega (arith, h)))
 
 no-whole : (a d : ℕ) → a < d → a / d ≡ 0
 no-whole a d h =

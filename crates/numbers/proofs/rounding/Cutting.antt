@@ -16,7 +16,8 @@ use lib.Ieee.Scale.{round-same}
 use borrow.Author.Tests.{le-ltb, ltb-true, ltb-false}
 use Rattle.numbers.specs.Floats.{whole}
 use Rattle.numbers.proofs.Wholes.{whole-is}
-use Rattle.numbers.proofs.rounding.Added.{wholes, with-wholes, nearest-under, added-value, bits-at, value-number}
+use Rattle.numbers.proofs.rounding.Closest.{closest-under}
+use Rattle.numbers.proofs.rounding.Added.{wholes, with-wholes, added-value, bits-at, value-number}
 
 -- not above 0
 none : (a d w : ℕ) → 0 < d → ltb (0 * 1 * d) (a * 1) ≡ false → min (a / d) (w - 1) ≡ 0
@@ -114,7 +115,7 @@ by-value m e h =
     let c = down e in
     let n = closest a c in
     let C = down-pos e in
-    let few : n ≤ 2 ^ 31 = nearest-under a c C (omega (arith, h)) in
+    let few : n ≤ 2 ^ 31 = closest-under (2 ^ 31) a c C (omega (arith, h)) in
     let value = added-value false m e (omega (arith, h)) in
     let bits : toBits binary64 (with-wholes (fin false m e)) ≡ 1074 * 2 ^ 52 + (wholes + n) = bits-at _ (wholes + n) value (omega arith) (omega (arith, few)) in
     let less : nearest-of (fin false m e) ≡ n = omega (arith, bits) in

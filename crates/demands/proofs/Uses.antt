@@ -211,7 +211,7 @@ last-product : (m : Map) (p : ℕ) → AcceptedMap m
     ≡ comboPoints (multiplierAt m p) (scoreAttributesAt m p .legacy .«max_combo») 300
 last-product m p a = every-combo-product-is-exact m p a (scoreAttributesAt m p .legacy .«max_combo») (omega arith)
 
--- the product of every accepted map's max combo is a whole number that its float keeps, the largest one that there is among them
+-- the float keeps the product of every accepted map's max combo
 longest-product : (m : Map) (p : ℕ) → AcceptedMap m → 2 ≤ scoreAttributesAt m p .difficulty .«max_combo»
     → toUnsigned 53 (comboProductOf (scoreAttributesAt m p .difficulty .«max_combo»))
     ≡ (scoreAttributesAt m p .difficulty .«max_combo» - 2) * scoreAttributesAt m p .difficulty .«max_combo»
@@ -220,7 +220,7 @@ longest-product m p a some = every-score-combo-product-is-exact _ (every-sum-fit
 largest-product : toUnsigned 53 (comboProductOf 8200192) ≡ 67243132436480
 largest-product = every-score-combo-product-is-exact 8200192 (omega arith) .exact (omega arith)
 
--- of maps with the most combo the product is no more than that; and one circle has -1
+-- with the limit written out; and one circle has -1
 no-larger-product : (combo : ℕ) → combo ≤ 8200192 → (combo - 2) * combo < 2 ^ 53
 no-larger-product combo h = every-score-combo-product-is-exact combo h .below
 

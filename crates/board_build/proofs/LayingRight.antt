@@ -1,6 +1,7 @@
 -- A pass over the objects of a map keeps, of both slices, what the objects so far have laid; at its end these are all objects.
 use Prim.Native.Nat.{ℕ, _+_, _≤_, _<_}
 use mathlib.Core.Path.{_≡_, refl, sym, ap, ap₂, _∙_, subst}
+use mathlib.Core.Bool.{true}
 use mathlib.Core.List.{List, [], _∷_, _++_}
 use native.Mathlib.Omega.{arith}
 use native.Mathlib.Nat.{not-suc-le-zero, le-of-suc-le-suc}
@@ -69,7 +70,7 @@ pub record SoFar (s : List ℕ) (m : Map) (cap : ℕ) (b₀ : List ℕ) (ts₀ :
   pub lays : Lays cap s m b₀ ts₀
   pub low : place ≤ m .objects
   pub x : Objects
-  pub here : ran.To x ≡ ranOf place s (objectsAt (objectsFrom (m .breaks)))
+  pub here : ran.To x ≡ ranOf true place s (objectsAt (objectsFrom (m .breaks)))
   pub at-is : at ≡ x .at
   pub words : b ≡ laid cap (take place (lays .map .file .map .objects)) b₀
   pub starts : ts ≡ begun (take place (lays .map .file .map .objects)) ts₀
@@ -170,7 +171,7 @@ module _ {s : List ℕ} {m : Map} {cap : ℕ} {b₀ : List ℕ} {ts₀ : List Fl
             record {
               lays = h;
               low = omega (arith, lt);
-              x = stepped (next .x) (next .o) (next .size);
+              x = stepped true (next .x) (next .o) (next .size);
               here = next .next;
               at-is = ap₂ (λ (i j : ℕ). i + j) at-next size-is;
               words = ap (λ (y : List ℕ × List Float). y .0) is;

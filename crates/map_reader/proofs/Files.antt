@@ -1,5 +1,6 @@
 -- The states of the loop are those of the files that the definition reads one after the other.
 use mathlib.Core.Path.{_≡_, refl, sym, ap, _∙_, subst}
+use mathlib.Core.Bool.{true}
 use mathlib.Core.List.{List, [], _∷_, _++_, append-nil, append-assoc}
 use Prim.Native.Nat.{ℕ, zero, suc, _+_, _-_, _≤_, _<_}
 use native.Mathlib.Omega.{arith}
@@ -138,7 +139,7 @@ module _ {s : List ℕ} {f : File} {x : Objects} (k : Keeps s f x) where
           never (cc)
 
   -- one object further
-  module _ {y : Objects} (t : Took s x y) (room : countOf x < maxObjects) where
+  module _ {y : Objects} (t : Took true s x y) (room : countOf x < maxObjects) where
     abbrev pub file-with : File
     file-with = with-record f (object (t .o), t .size)
 
@@ -181,20 +182,20 @@ takenBy step.OverBonus os go = []
 
 unfoldable pub objectsRan : ℕ → List ℕ → Objects → List Object
 objectsRan zero s x = []
-objectsRan (suc n) s x = takenBy (nextOf s x) (objectsIn (objectAt s x)) (λ y. objectsRan n s y)
+objectsRan (suc n) s x = takenBy (nextOf true s x) (objectsIn (objectAt s x)) (λ y. objectsRan n s y)
 
-pub taken-next : (n : ℕ) (s : List ℕ) (x y : Objects) → step.Next y ≡ nextOf s x → (t : Took s x y) → objectsRan (suc n) s x ≡ t .o ∷ objectsRan n s y
+pub taken-next : (n : ℕ) (s : List ℕ) (x y : Objects) → step.Next y ≡ nextOf true s x → (t : Took true s x y) → objectsRan (suc n) s x ≡ t .o ∷ objectsRan n s y
 unfolding objectsRan
 taken-next n s x y e t =
     ap (λ (a : Stepped). takenBy a (objectsIn (objectAt s x)) (λ z. objectsRan n s z)) (sym e)
     ∙ ap (λ (a : FoundRecord). objectsIn a ++ objectsRan n s y) (t .found)
 
-pub taken-stop : (n : ℕ) (s : List ℕ) (x : Objects) → step.Stop ≡ nextOf s x → objectsRan n s x ≡ []
+pub taken-stop : (n : ℕ) (s : List ℕ) (x : Objects) → step.Stop ≡ nextOf true s x → objectsRan n s x ≡ []
 unfolding objectsRan
 taken-stop zero s x e = refl
 taken-stop (suc n) s x e = ap (λ (a : Stepped). takenBy a (objectsIn (objectAt s x)) (λ z. objectsRan n s z)) (sym e)
 
-pub taken-over : (n : ℕ) (s : List ℕ) (x : Objects) → step.OverBonus ≡ nextOf s x → objectsRan n s x ≡ []
+pub taken-over : (n : ℕ) (s : List ℕ) (x : Objects) → step.OverBonus ≡ nextOf true s x → objectsRan n s x ≡ []
 unfolding objectsRan
 taken-over zero s x e = refl
 taken-over (suc n) s x e = ap (λ (a : Stepped). takenBy a (objectsIn (objectAt s x)) (λ z. objectsRan n s z)) (sym e)
@@ -203,7 +204,7 @@ taken-over (suc n) s x e = ap (λ (a : Stepped). takenBy a (objectsIn (objectAt 
 -- as many objects as were asked for, or all that there are
 pub data Ends (s : List ℕ) (m : ℕ) (y : Objects) : Type 0 where
   full : countOf y ≡ m → Ends s m y
-  stopped : countOf y ≤ m → step.Stop ≡ nextOf s y → Ends s m y
+  stopped : countOf y ≤ m → step.Stop ≡ nextOf true s y → Ends s m y
 
 pub record Follows (s : List ℕ) (f g : File) (x : Objects) (more : List Object) : Type 0 where
   pub settings : g .map .settings ≡ f .map .settings
@@ -225,7 +226,7 @@ follows-none s f x more e = record {
   first = λ h. absurd (let z = ap length e in omega (arith, h, z));
 }
 
-module _ {s : List ℕ} {f : File} {x y : Objects} (k : Keeps s f x) (t : Took s x y) (room : countOf x < maxObjects) where
+module _ {s : List ℕ} {f : File} {x y : Objects} (k : Keeps s f x) (t : Took true s x y) (room : countOf x < maxObjects) where
   follows-more : (g : File) (rest more : List Object) → Follows s (file-with k t room) g y rest → more ≡ t .o ∷ rest → Follows s f g x more
   unfolding with-record
   follows-more g rest more w e = record {
@@ -239,30 +240,30 @@ module _ {s : List ℕ} {f : File} {x y : Objects} (k : Keeps s f x) (t : Took s
 ends-more : {s : List ℕ} {m n : ℕ} {y : Objects} → m ≡ n → Ends s m y → Ends s n y
 ends-more {s = s} {y = y} e h = subst (λ (k : ℕ). Ends s k y) e h
 
-pub keeps-ran : (n : ℕ) (s : List ℕ) (f : File) (x : Objects) → Keeps s f x → countOf x + n ≤ maxObjects → RanFile s f x n (ranOf n s x)
+pub keeps-ran : (n : ℕ) (s : List ℕ) (f : File) (x : Objects) → Keeps s f x → countOf x + n ≤ maxObjects → RanFile s f x n (ranOf true n s x)
 unfolding ranOf objectsRan
 keeps-ran zero s f x k h = to f k (follows-none s f x [] refl) (full (omega arith))
-keeps-ran (suc n) s f x k h = go (λ g y m l. keeps-ran n s g y m l) (nextOf s x) refl (answered s x)
+keeps-ran (suc n) s f x k h = go (λ g y m l. keeps-ran n s g y m l) (nextOf true s x) refl (answered true s x)
   where
     room : countOf x < maxObjects
     room = omega (arith, h)
 
-    further : (y : Objects) (t : Took s x y) → step.Next y ≡ nextOf s x → (r : Ran) → RanFile s (file-with k t room) y n r → RanFile s f x (suc n) r
+    further : (y : Objects) (t : Took true s x y) → step.Next y ≡ nextOf true s x → (r : Ran) → RanFile s (file-with k t room) y n r → RanFile s f x (suc n) r
     further y t e (ran.To z) (to g kg w ends) =
         let count = took-count t in
         to g kg (follows-more k t room g (objectsRan n s y) (objectsRan (suc n) s x) w (taken-next n s x y e t)) (ends-more (omega (arith, count)) ends)
     further y t e (ran.OverBonus at) (over g q p) = over g q p
 
-    go : ((g : File) (y : Objects) → Keeps s g y → countOf y + n ≤ maxObjects → RanFile s g y n (ranOf n s y))
-        → (a : Stepped) → nextOf s x ≡ a → Answered s x a → RanFile s f x (suc n) (ranBy x (nextOf s x) (λ y. ranOf n s y))
+    go : ((g : File) (y : Objects) → Keeps s g y → countOf y + n ≤ maxObjects → RanFile s g y n (ranOf true n s y))
+        → (a : Stepped) → nextOf true s x ≡ a → Answered true s x a → RanFile s f x (suc n) (ranBy x (nextOf true s x) (λ y. ranOf true n s y))
     go more (step.Next y) e (took t) =
         let count = took-count t in
-        subst (RanFile s f x (suc n)) (sym (ran-next n s x y (sym e))) (further y t (sym e) (ranOf n s y) (more (file-with k t room) y (keeps-next k t room) (omega (arith, h, count))))
+        subst (RanFile s f x (suc n)) (sym (ran-next true n s x y (sym e))) (further y t (sym e) (ranOf true n s y) (more (file-with k t room) y (keeps-next k t room) (omega (arith, h, count))))
     go more step.Stop e (stop h) =
-        subst (RanFile s f x (suc n)) (ran-stop (suc n) s x (sym e)) (to f k (follows-none s f x (objectsRan (suc n) s x) (taken-stop (suc n) s x (sym e))) (stopped (omega arith) (sym e)))
+        subst (RanFile s f x (suc n)) (ran-stop true (suc n) s x (sym e)) (to f k (follows-none s f x (objectsRan (suc n) s x) (taken-stop (suc n) s x (sym e))) (stopped (omega arith) (sym e)))
     go more step.OverBonus e (over·by h) =
         let found = keeps-over k (h .long) room (h .o) (h .size) (h .found) (h .over) in
         subst
         (RanFile s f x (suc n))
-        (ran-over (suc n) s x (omega arith) (sym e))
+        (ran-over true (suc n) s x (omega arith) (sym e))
         (over f (on-stop s f 7 (chain-on s f (k .chain)) (before-end k (h .long) room (h .o) (h .size) (h .found)) found ∙ ap (λ (m : ℕ). refusedAt 7 m f) (sym (k .at))) (chain-plays s f (k .chain) (k .no-play)))

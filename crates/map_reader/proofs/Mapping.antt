@@ -112,7 +112,7 @@ module _ {s : List ℕ} {g : File} {all : Objects} (k : Keeps s g all) (free : N
           let fits = all-out (subst (All (λ f. Fits (countsOf g) (contentView (f .0)))) e (record-fits (drop (g .at) s) (countsOf g))) in
           let c = state-count (k .state) in
           omega (arith, fits .0, c, q)
-      go (stopped m q) = keeps-stops k (next-stops s all q) o n e
+      go (stopped m q) = keeps-stops k (next-stops true s all q) o n e
   no-record (play p) n e h = h (found-play (drop (g .at) s) (countsOf g) (play p, n) e refl)
 
   stop-at : StopAt s g (stopIn s (view g))
@@ -157,15 +157,15 @@ module _ {s : List ℕ} {t : Settings} {count : ℕ} (k : BreaksEnd s t count) (
   }
 
   -- of all objects and the state behind some of them
-  module _ (all : Objects) (g : File) (e : ran.To all ≡ ranOf maxObjects s from) (kg : Keeps s g all) (w : Follows s f g from (objectsRan maxObjects s from))
-      (passed : Objects) (e′ : ran.To passed ≡ ranOf (min p maxObjects) s from) where
+  module _ (all : Objects) (g : File) (e : ran.To all ≡ ranOf true maxObjects s from) (kg : Keeps s g all) (w : Follows s f g from (objectsRan maxObjects s from))
+      (passed : Objects) (e′ : ran.To passed ≡ ranOf true (min p maxObjects) s from) where
     abbrev os : List Object
     os = g .map .objects
 
     few : length os ≤ maxObjects
     few = chain-limits s g (kg .chain) (kg .begun) .few-objects
 
-    states : (n : ℕ) → n ≤ maxObjects → RanTo (take n os) (ranOf n s from)
+    states : (n : ℕ) → n ≤ maxObjects → RanTo (take n os) (ranOf true n s from)
     states = ran-states s f from keeps-start (k .at .objects) all g e w
 
     passed-is : StateOf (take p os) passed
@@ -229,19 +229,19 @@ module _ {s : List ℕ} {t : Settings} {count : ℕ} (k : BreaksEnd s t count) (
         map-to (stopIn s (readerBehind t count all)) (subst (λ (r : Reader). StopAt s g (stopIn s r)) (sym v) (stop-at kg free done))
 
   -- all objects behind those that are passed
-  read-all : (passed : Objects) → ran.To passed ≡ ranOf (min p maxObjects) s from → (r : Ran) → r ≡ ranOf maxObjects s from → RanFile s f from maxObjects r
+  read-all : (passed : Objects) → ran.To passed ≡ ranOf true (min p maxObjects) s from → (r : Ran) → r ≡ ranOf true maxObjects s from → RanFile s f from maxObjects r
       → MapReadOf s p (thenRead (mapTo s t count passed) r)
   read-all passed e (ran.OverBonus at) q (over g h n) = refuses h n
   read-all passed e (ran.To all) q (to g kg w done) = stopped-is all g q kg w passed e done
 
   pub objects-read : MapReadOf s p (objectsOf s t count p)
-  objects-read = go (ranOf (min p maxObjects) s from) refl (keeps-ran (min p maxObjects) s f from keeps-start (omega arith))
+  objects-read = go (ranOf true (min p maxObjects) s from) refl (keeps-ran (min p maxObjects) s f from keeps-start (omega arith))
     where
-      go : (r : Ran) → ranOf (min p maxObjects) s from ≡ r → RanFile s f from (min p maxObjects) r → MapReadOf s p (thenRead (restOf s t count) r)
+      go : (r : Ran) → ranOf true (min p maxObjects) s from ≡ r → RanFile s f from (min p maxObjects) r → MapReadOf s p (thenRead (restOf s t count) r)
       go (ran.OverBonus at) e (over g h n) = refuses h n
       go (ran.To y) e (to g kg w done) =
           let on = reads-on s f from keeps-start (k .at .objects) (min p maxObjects) y (omega arith) (sym e) done in
-          subst (λ (r : Ran). MapReadOf s p (thenRead (mapTo s t count y) r)) (sym on) (read-all y (sym e) (ranOf maxObjects s from) refl (keeps-ran maxObjects s f from keeps-start (omega arith)))
+          subst (λ (r : Ran). MapReadOf s p (thenRead (mapTo s t count y) r)) (sym on) (read-all y (sym e) (ranOf true maxObjects s from) refl (keeps-ran maxObjects s f from keeps-start (omega arith)))
 
 pub read-is : (s : List ℕ) (t : Settings) (p : ℕ) → head.Is t ≡ headIn s → MapReadOf s p (objectsOf s t (breaksCount s) p)
 read-is s t p e = objects-read (head-reads s t e) p
@@ -251,7 +251,7 @@ read-refused s n p e = refuses (head-refuses s n e) refl
 
 -- ---- from what the calls said
 pub ran-from : (s : List ℕ) (breaks p limit at : ℕ) (x : Objects) → limit ≡ min p maxObjects → at ≡ objectsFrom breaks → x ≡ objectsAt at
-    → ranOf (limit - countOf x) s x ≡ ranOf (min p maxObjects) s (objectsAt (objectsFrom breaks))
+    → ranOf true (limit - countOf x) s x ≡ ranOf true (min p maxObjects) s (objectsAt (objectsFrom breaks))
 ran-from s breaks p limit at x e q k =
     let n : limit - 0 ≡ min p maxObjects = omega (arith, e) in
-    ap (λ (z : Objects). ranOf (limit - countOf z) s z) (k ∙ ap objectsAt q) ∙ ap (λ (i : ℕ). ranOf i s (objectsAt (objectsFrom breaks))) n
+    ap (λ (z : Objects). ranOf true (limit - countOf z) s z) (k ∙ ap objectsAt q) ∙ ap (λ (i : ℕ). ranOf true i s (objectsAt (objectsFrom breaks))) n

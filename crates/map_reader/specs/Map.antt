@@ -118,10 +118,10 @@ thenRead go (ran.OverBonus at) = read.Refused BONUS at
 thenRead go (ran.To x) = go x
 
 abbrev pub restOf : List ℕ → Settings → ℕ → Objects → MapRead
-restOf s t breaks passed = thenRead (mapTo s t breaks passed) (ranOf (maxObjects - passed .nested .«object_count») s passed)
+restOf s t breaks passed = thenRead (mapTo s t breaks passed) (ranOf true (maxObjects - passed .nested .«object_count») s passed)
 
 abbrev pub objectsOf : List ℕ → Settings → ℕ → ℕ → MapRead
-objectsOf s t breaks p = thenRead (restOf s t breaks) (ranOf (min p maxObjects) s (objectsAt (objectsFrom breaks)))
+objectsOf s t breaks p = thenRead (restOf s t breaks) (ranOf true (min p maxObjects) s (objectsAt (objectsFrom breaks)))
 
 -- ---- what that says of the file
 -- the state behind some objects
@@ -141,12 +141,12 @@ pub data Behind (s : List ℕ) (at : ℕ) : Type 0 where
 -- the object behind n others: where it stands and what is read there
 pub record NextIs (s : List ℕ) (from : Objects) (os : List Object) (n : ℕ) : Type 0 where
   pub x : Objects
-  pub here : ran.To x ≡ ranOf n s from
+  pub here : ran.To x ≡ ranOf true n s from
   pub inside : x .at + circleSize ≤ length s
   pub o : Object
   pub size : ℕ
   pub found : objectOf (drop (x .at) s) (wordAt (drop (x .at) s) 0 2) ≡ good (object o, size)
-  pub next : ran.To (stepped x o size) ≡ ranOf (n + 1) s from
+  pub next : ran.To (stepped true x o size) ≡ ranOf true (n + 1) s from
   pub more : take (n + 1) os ≡ take n os ++ (o ∷ [])
 
 -- m is the map of the file, with the state behind its first p objects. `states` is for a caller that reads on from a state that it kept, `nexts` for one that reads the objects again.
@@ -162,7 +162,7 @@ pub record MapIs (s : List ℕ) (p : ℕ) (m : Map) : Type 0 where
   pub objects : m .objects ≡ length (file .map .objects)
   pub first : m .«first_start» ≡ startOf (file .map .objects) 0
   pub passed : StateOf (take p (file .map .objects)) (m .passed)
-  pub states : (n : ℕ) → n ≤ maxObjects → RanTo (take n (file .map .objects)) (ranOf n s (objectsAt (objectsFrom (m .breaks))))
+  pub states : (n : ℕ) → n ≤ maxObjects → RanTo (take n (file .map .objects)) (ranOf true n s (objectsAt (objectsFrom (m .breaks))))
   pub nexts : (n : ℕ) → n < length (file .map .objects) → NextIs s (objectsAt (objectsFrom (m .breaks))) (file .map .objects) n
 
 -- the map of a file, or the refusal of the file, with no play before it

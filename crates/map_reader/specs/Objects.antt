@@ -1,5 +1,6 @@
 -- Document 01, "Simulation": "Each object steps the running state". The loop over a map's objects, as far as they are read with no refusal.
 use Prim.Native.Nat.{ℕ, zero, suc, _+_, _-_, _≤_}
+use mathlib.Core.Bool.{Bool, true, false}
 use mathlib.Core.List.{List}
 use lib.Dec.{ltb}
 use lib.ListN.{length, drop}
@@ -7,7 +8,7 @@ use Rattle.numbers.specs.Floats.{whole}
 use Rattle.numbers.specs.Words.{wordAt}
 use Rattle.rules.specs.Limits.{maxObjects, maxBonus, circleSize}
 use Rattle.rules.specs.Refusals.{good, refused, pick}
-use Rattle.records.specs.Objects.{Object, kindBonus}
+use Rattle.records.specs.Objects.{Object, Kind, circle, slider, spinner, kindBonus}
 use Rattle.records.specs.Records.{Content, header, break, object, play, FoundRecord, objectOf}
 use Rattle.simulator.specs.Hits.{hitsOf}
 use Rattle.simulator.specs.Walk.{fresh, walk}
@@ -23,11 +24,18 @@ use Rattle.map_reader.specs.declared.objects.Ran.the-variants as ran
 abbrev pub objectsAt : ℕ → Objects
 objectsAt at = record { at = at; score = fresh; nested = noObject; «last_start» = whole 0 }
 
--- behind one more object, which is `size` bytes long
-abbrev pub stepped : Objects → Object → ℕ → Objects
-stepped x o size = record {
+-- the object by whose hits the score goes on: where half spins are not walked, a spinner has no bonus and the 300 of a circle
+abbrev pub hitAs : Bool → Kind → Kind
+hitAs true k = k
+hitAs false circle = circle
+hitAs false (slider is) = slider is
+hitAs false (spinner d) = circle
+
+-- behind one more object, which is `size` bytes long; w says whether half spins are walked
+abbrev pub stepped : Bool → Objects → Object → ℕ → Objects
+stepped w x o size = record {
   at = x .at + size;
-  score = walk 1 (x .score) (hitsOf (o .kind));
+  score = walk 1 (x .score) (hitsOf (hitAs w (o .kind)));
   nested = counted (x .nested) (o .kind);
   «last_start» = o .start;
 }
@@ -36,20 +44,20 @@ abbrev pub bonusOf : Objects → ℕ
 bonusOf x = x .score .«legacy_bonus_score» .0
 
 -- "7: the legacy bonus of all objects is above 2,147,483,647"
-abbrev pub steppedWith : Objects → Content → ℕ → Stepped
-steppedWith x (header s) n = step.Stop
-steppedWith x (break b) n = step.Stop
-steppedWith x (object o) n = pick (ltb maxBonus (bonusOf x + kindBonus (o .kind))) step.OverBonus (step.Next (stepped x o n))
-steppedWith x (play p) n = step.Stop
+abbrev pub steppedWith : Bool → Objects → Content → ℕ → Stepped
+steppedWith w x (header s) n = step.Stop
+steppedWith w x (break b) n = step.Stop
+steppedWith w x (object o) n = pick (ltb maxBonus (bonusOf x + kindBonus (hitAs w (o .kind)))) step.OverBonus (step.Next (stepped w x o n))
+steppedWith w x (play p) n = step.Stop
 
 -- by what was found; the loop stops where that is refused
-abbrev pub steppedBy : Objects → FoundRecord → Stepped
-steppedBy x (refused n) = step.Stop
-steppedBy x (good f) = steppedWith x (f .0) (f .1)
+abbrev pub steppedBy : Bool → Objects → FoundRecord → Stepped
+steppedBy w x (refused n) = step.Stop
+steppedBy w x (good f) = steppedWith w x (f .0) (f .1)
 
 -- no object is shorter than a circle
-unfoldable pub nextOf : List ℕ → Objects → Stepped
-nextOf s x = pick (ltb (length s) (x .at + circleSize)) step.Stop (steppedBy x (objectOf (drop (x .at) s) (wordAt (drop (x .at) s) 0 2)))
+unfoldable pub nextOf : Bool → List ℕ → Objects → Stepped
+nextOf w s x = pick (ltb (length s) (x .at + circleSize)) step.Stop (steppedBy w x (objectOf (drop (x .at) s) (wordAt (drop (x .at) s) 0 2)))
 
 -- what follows a step
 abbrev pub ranBy : Objects → Stepped → (Objects → Ran) → Ran
@@ -58,9 +66,9 @@ ranBy x step.Stop go = ran.To x
 ranBy x step.OverBonus go = ran.OverBonus (x .at)
 
 -- n objects further, or as many as there are
-unfoldable pub ranOf : ℕ → List ℕ → Objects → Ran
-ranOf zero s x = ran.To x
-ranOf (suc n) s x = ranBy x (nextOf s x) (λ y. ranOf n s y)
+unfoldable pub ranOf : Bool → ℕ → List ℕ → Objects → Ran
+ranOf w zero s x = ran.To x
+ranOf w (suc n) s x = ranBy x (nextOf w s x) (λ y. ranOf w n s y)
 
 -- ---- there is room for one object more
 abbrev pub Room : Objects → Type 0

@@ -198,7 +198,7 @@ fn read_rest(s: &[u8], settings: Settings, breaks: u64, passed: Objects) -> MapR
     requires { ⌜ Small (now s) passed × (breaks ≤ maxBreaks) ⌝ }
     ensures { λ r. ⌜ r ≡ restOf (now (s .entry)) settings breaks passed ⌝ }
 {
-    match run(s, passed, HitObject::MAX_COUNT) {
+    match run(s, passed, HitObject::MAX_COUNT, true) {
         Ran::OverBonus(offset) => MapRead::Refused {
             number: refusal::BONUS,
             offset,
@@ -212,7 +212,7 @@ fn read_objects(s: &[u8], settings: Settings, breaks: u64, passed: u64) -> MapRe
     ensures { λ r. ⌜ r ≡ objectsOf (now (s .entry)) settings breaks passed ⌝ }
 {
     let limit = least(passed, HitObject::MAX_COUNT);
-    match run(s, Objects::new(objects_from(breaks)), limit) {
+    match run(s, Objects::new(objects_from(breaks)), limit, true) {
         Ran::OverBonus(offset) => MapRead::Refused {
             number: refusal::BONUS,
             offset,

@@ -3,6 +3,7 @@ use numbers::words::word_at;
 use records::hit_object;
 use records::hit_object::HitObject;
 use records::hit_object::HitObjectKind;
+use records::hit_object::Spinner;
 use records::object_record;
 use records::record::Read;
 use records::record::Record;
@@ -12,8 +13,13 @@ ghost use mathlib.Core.Path.{_≡_};
 ghost use Prim.Native.Nat.{_+_, _-_, _≤_, _<_, _^_};
 ghost use lib.ListN.{length};
 ghost use Rattle.rules.specs.Limits.{maxObjects};
+ghost use mathlib.Core.Bool.{true};
+ghost use Rattle.records.specs.Objects.{spinner as spinnerKind};
+ghost use Rattle.simulator.specs.Hits.{hitsOf};
+ghost use Rattle.simulator.specs.Walk.{walk};
+ghost use Rattle.simulator.specs.Limits.{Within};
 ghost use Rattle.records.specs.Records.{circleOf, sliderOf, spinnerOf};
-ghost use Rattle.map_reader.specs.Objects.{objectsAt, Room, Small, steppedBy, nextOf, ranOf};
+ghost use Rattle.map_reader.specs.Objects.{hitAs, objectsAt, Room, Small, steppedBy, nextOf, ranOf};
 
 // The running state behind some objects, how many they are, and where the next record begins.
 pub struct Objects {
@@ -35,6 +41,17 @@ pub enum Ran {
     OverBonus(usize),
 }
 
+// A spinner's step: with the bonus of its half spins, or without, as a circle's.
+fn spun(score: OsuLegacyScoreSimulator, spinner: Spinner, walks: bool) -> OsuLegacyScoreSimulator
+    requires { ⌜ Within (maxObjects - 1) score ⌝ }
+    ensures { λ r. ⌜ r ≡ walk 1 score (hitsOf (hitAs walks (spinnerKind (spinner .duration)))) ⌝ }
+{
+    if walks {
+        return score.spinner(spinner);
+    }
+    score.circle()
+}
+
 impl Objects {
     pub fn new(at: usize) -> Self
         ensures { λ r. ⌜ r ≡ objectsAt at ⌝ }
@@ -50,7 +67,7 @@ impl Objects {
     // Three functions read the three kinds, so that each has the reading and the step of its own in one piece.
     fn with_circle(self, r: &[u8]) -> Stepped
         requires { ⌜ Room self × (self .at + length (now r) < 2 ^ 64) ⌝ }
-        ensures { λ x. ⌜ x ≡ steppedBy self (circleOf (now (r .entry))) ⌝ }
+        ensures { λ x. ⌜ x ≡ steppedBy true self (circleOf (now (r .entry))) ⌝ }
     {
         let Read::Good(item, size) = object_record::read_circle(r) else {
             return Stepped::Stop;
@@ -74,7 +91,7 @@ impl Objects {
 
     fn with_slider(self, r: &[u8]) -> Stepped
         requires { ⌜ Room self × (self .at + length (now r) < 2 ^ 64) ⌝ }
-        ensures { λ x. ⌜ x ≡ steppedBy self (sliderOf (now (r .entry))) ⌝ }
+        ensures { λ x. ⌜ x ≡ steppedBy true self (sliderOf (now (r .entry))) ⌝ }
     {
         let Read::Good(item, size) = object_record::read_slider(r) else {
             return Stepped::Stop;
@@ -96,9 +113,9 @@ impl Objects {
         })
     }
 
-    fn with_spinner(self, r: &[u8]) -> Stepped
+    fn with_spinner(self, r: &[u8], walks: bool) -> Stepped
         requires { ⌜ Room self × (self .at + length (now r) < 2 ^ 64) ⌝ }
-        ensures { λ x. ⌜ x ≡ steppedBy self (spinnerOf (now (r .entry))) ⌝ }
+        ensures { λ x. ⌜ x ≡ steppedBy walks self (spinnerOf (now (r .entry))) ⌝ }
     {
         let Read::Good(item, size) = object_record::read_spinner(r) else {
             return Stepped::Stop;
@@ -112,7 +129,7 @@ impl Objects {
         };
         let score = self.score;
         let nested = self.nested;
-        let next = score.spinner(spinner);
+        let next = spun(score, spinner, walks);
         if HitObject::MAX_BONUS < next.legacy_bonus_score.0 {
             return Stepped::OverBonus;
         }
@@ -125,9 +142,9 @@ impl Objects {
     }
 
     // The shortest object has the size of a circle.
-    fn with_next(self, s: &[u8]) -> Stepped
+    fn with_next(self, s: &[u8], walks: bool) -> Stepped
         requires { ⌜ Room self × (self .at ≤ length (now s)) ⌝ }
-        ensures { λ x. ⌜ x ≡ nextOf (now (s .entry)) self ⌝ }
+        ensures { λ x. ⌜ x ≡ nextOf walks (now (s .entry)) self ⌝ }
     {
         let at = self.at;
         if s.len() < at + HitObject::CIRCLE_SIZE {
@@ -142,20 +159,20 @@ impl Objects {
             return self.with_slider(r);
         }
         if mark == hit_object::SP {
-            return self.with_spinner(r);
+            return self.with_spinner(r, walks);
         }
         Stepped::Stop
     }
 }
 
-// Reads on until `limit` objects are read, or as far as there are objects.
-pub fn run(s: &[u8], from: Objects, limit: u64) -> Ran
+// Reads on until `limit` objects are read, or as far as there are objects. Where spinners are not walked, the state has no bonus of theirs.
+pub fn run(s: &[u8], from: Objects, limit: u64, walks: bool) -> Ran
     requires { ⌜ Small (now s) from × (limit ≤ maxObjects) ⌝ }
-    ensures { λ r. ⌜ r ≡ ranOf (limit - from .nested .«object_count») (now (s .entry)) from ⌝ }
+    ensures { λ r. ⌜ r ≡ ranOf walks (limit - from .nested .«object_count») (now (s .entry)) from ⌝ }
 {
     let mut state = from;
     while state.nested.object_count < limit {
-        match state.with_next(s) {
+        match state.with_next(s, walks) {
             Stepped::Next(next) => {
                 state = next;
             }

@@ -12,19 +12,9 @@ use Rattle.numbers.specs.Floats.{whole, _⊗_, _⊘_}
 use Rattle.numbers.proofs.Bounds.{plain, Upto, mul-upto, mul-plain, div-upto, of-itself, upto-trans, cut-mono}
 use Rattle.numbers.proofs.Wholes.{whole-mul, whole-cut, cut-least}
 use Rattle.spinner.specs.HalfSpins.{seconds, totalHalfSpins, requiredHalfSpins}
-use Rattle.spinner.specs.Bonus.{isLarge, isSmall, halfSpinPoints, legacyOf, standardisedOf, largeCount, smallCount}
-use Rattle.spinner.proofs.Walks.{walked-is}
+use Rattle.spinner.specs.Bonus.{legacyOf, standardisedOf, largeCount, smallCount}
+use Rattle.spinner.proofs.Walks.{walked-is, points-most}
 use Rattle.simulator.specs.Nested.{spinsScore, spinnerScoreOf}
-
-walked-most : (large small b n : ℕ) → small ≤ large → halfSpinPoints large small b n ≤ large * n
-unfolding halfSpinPoints
-walked-most large small b zero h = omega arith
-walked-most large small b (suc i) h = one (isLarge b i) (isSmall i) (halfSpinPoints large small b i) (walked-most large small b i h)
-  where
-    one : (x y : Bool) (u : ℕ) → u ≤ large * i → u + cond x large (cond y small 0) ≤ large * suc i
-    one true y u k = omega arith
-    one false true u k = omega arith
-    one false false u k = omega arith
 
 -- T fits an i32
 total-lt : (d : Float) → suc (totalHalfSpins d) ≤ 2 ^ 31
@@ -36,12 +26,12 @@ most large n h = native.Mathlib.Nat.mul-le-mul-left large h
 
 pub legacy-most : (d : Float) → legacyOf d ≤ 1100 * 2 ^ 31
 unfolding legacyOf
-legacy-most d = le-trans (walked-most 1100 100 (requiredHalfSpins d + 3) (suc (totalHalfSpins d)) (omega arith)) (most 1100 (suc (totalHalfSpins d)) (total-lt d))
+legacy-most d = le-trans (points-most 1100 100 (requiredHalfSpins d + 3) (suc (totalHalfSpins d)) (omega arith)) (most 1100 (suc (totalHalfSpins d)) (total-lt d))
 
 pub standardised-most : (d : Float) → standardisedOf d ≤ 50 * 2 ^ 31
 unfolding standardisedOf
 standardised-most d =
-    le-trans (walked-most 50 10 (requiredHalfSpins d + 3) (suc (totalHalfSpins d)) (omega arith)) (most 50 (suc (totalHalfSpins d)) (total-lt d))
+    le-trans (points-most 50 10 (requiredHalfSpins d + 3) (suc (totalHalfSpins d)) (omega arith)) (most 50 (suc (totalHalfSpins d)) (total-lt d))
 
 -- "Nested spinner score of a map is at most its legacy bonus": for each spinner
 nested-count : (t b : ℕ) → 100 * (t / 2) + 1000 * ((t - b) / 2 - t / 2 / 2) ≤ 1100 * largeCount b t + 100 * smallCount b t
@@ -128,7 +118,7 @@ required-half d h = go (seconds d) (hour d h)
 pub legacy-hour : (d : Float) → Upto d (whole 3600000) → legacyOf d ≤ 62965100
 unfolding legacyOf
 legacy-hour d h =
-    let w = walked-most 1100 100 (requiredHalfSpins d + 3) (suc (totalHalfSpins d)) (omega arith) in
+    let w = points-most 1100 100 (requiredHalfSpins d + 3) (suc (totalHalfSpins d)) (omega arith) in
     let t = total-hour d h in
     omega (arith, w, t)
 

@@ -1,11 +1,14 @@
--- The spinner's walked is two counts. Assumes nothing.
+-- The sums behind each half spin, and the points of a walk as two counts. Assumes nothing.
 use mathlib.Core.Path.{_≡_, refl, sym, ap, _∙_, subst}
 use Prim.Native.Nat.{ℕ, zero, suc, _+_, _-_, _*_, _/_, _%_, _^_, _≤_, _<_, min}
 use native.Mathlib.Omega.{arith}
+use mathlib.Core.Logic.{_⊎_, inl, inr}
 use mathlib.Core.Bool.{Bool, true, false, not, cond, _&&_}
+use lib.Ieee.{Float}
 use lib.Dec.{T, ltb, eqb, ltb→lt, nltb→le, eqb→eq}
-use borrow.Author.Tests.{eqb-false}
-use Rattle.spinner.specs.Bonus.{isLarge, isSmall, halfSpinPoints, largeCount, smallCount}
+use borrow.Author.Tests.{eqb-false, lt-ltb, le-ltb}
+use Rattle.spinner.specs.HalfSpins.{totalHalfSpins, requiredHalfSpins}
+use Rattle.spinner.specs.Bonus.{isLarge, isSmall, halfSpinPoints, legacyOf, standardisedOf, largeCount, smallCount}
 
 -- one more step, by what it adds
 add-large : (l s L S L′ S′ : ℕ) → L′ ≡ L + 1 → S′ ≡ S → l * L + s * S + l ≡ l * L′ + s * S′
@@ -96,10 +99,53 @@ unfolding halfSpinPoints
 walked-is l s b zero = first l s b
 walked-is l s b (suc t) = ap (λ (x : ℕ). x + cond (isLarge b (suc t)) l (cond (isSmall (suc t)) s 0)) (walked-is l s b t) ∙ next l s b t
 
--- the points of the walk to t, from the two counts
-pub points-is : (l s b t L S : ℕ) → L ≡ largeCount b t → S ≡ smallCount b t → L * l + S * s ≡ halfSpinPoints l s b (suc t)
-points-is l s b t L S p q =
-    turn l s L S ∙ ap (λ (x : ℕ). l * x + s * S) p ∙ ap (λ (x : ℕ). l * largeCount b t + s * x) q ∙ sym (walked-is l s b t)
+-- ---- one half spin more, by what it earns
+module _ (l s b i : ℕ) where
+  pub next-large : isLarge b i ≡ true → halfSpinPoints l s b i + l ≡ halfSpinPoints l s b (suc i)
+  unfolding halfSpinPoints
+  next-large e = ap (λ (x : Bool). halfSpinPoints l s b i + cond x l (cond (isSmall i) s 0)) (sym e)
+
+  pub next-small : isLarge b i ≡ false → isSmall i ≡ true → halfSpinPoints l s b i + s ≡ halfSpinPoints l s b (suc i)
+  unfolding halfSpinPoints
+  next-small e f =
+      ap (λ (x : Bool). halfSpinPoints l s b i + cond x s 0) (sym f) ∙ ap (λ (x : Bool). halfSpinPoints l s b i + cond x l (cond (isSmall i) s 0)) (sym e)
+
+  pub next-none : isLarge b i ≡ false → isSmall i ≡ false → halfSpinPoints l s b i ≡ halfSpinPoints l s b (suc i)
+  unfolding halfSpinPoints
+  next-none e f =
+      (let z : halfSpinPoints l s b i ≡ halfSpinPoints l s b i + 0 = omega arith in z)
+      ∙ ap (λ (x : Bool). halfSpinPoints l s b i + cond x s 0) (sym f)
+      ∙ ap (λ (x : Bool). halfSpinPoints l s b i + cond x l (cond (isSmall i) s 0)) (sym e)
+
+-- each half spin earns at most the large bonus
+pub points-most : (l s b i : ℕ) → s ≤ l → halfSpinPoints l s b i ≤ l * i
+unfolding halfSpinPoints
+points-most l s b zero h = omega arith
+points-most l s b (suc i) h = let z = points-most l s b i h in let e = earned (isLarge b i) (isSmall i) in omega (arith, z, e)
   where
-    turn : (l s L S : ℕ) → L * l + S * s ≡ l * L + s * S
-    turn l s L S = omega arith
+    earned : (p q : Bool) → cond p l (cond q s 0) ≤ l
+    earned true q = omega arith
+    earned false true = h
+    earned false false = omega arith
+
+-- ---- the two tests, as the code asks them
+pub large-not : (b i : ℕ) → ((b < i) × (eqb ((i - b) % 2) 0 ≡ false)) ⊎ (i ≤ b) → isLarge b i ≡ false
+large-not b i (inl x) = rw (lt-ltb b i (x .0), x .1)
+large-not b i (inr h) = rw (le-ltb b i h)
+
+pub small-not : (i : ℕ) → ((1 < i) × (eqb (i % 2) 0 ≡ false)) ⊎ (i ≤ 1) → isSmall i ≡ false
+small-not i (inl x) = rw (lt-ltb 1 i (x .0), x .1)
+small-not i (inr h) = rw (le-ltb 1 i h)
+
+-- ---- document 02, §4: "at the end, for each duration, those of the counts"
+module _ (d : Float) where
+  abbrev B : ℕ
+  B = requiredHalfSpins d + 3
+
+  pub legacy-by-counts : legacyOf d ≡ 1100 * largeCount B (totalHalfSpins d) + 100 * smallCount B (totalHalfSpins d)
+  unfolding legacyOf
+  legacy-by-counts = walked-is 1100 100 B (totalHalfSpins d)
+
+  pub standardised-by-counts : standardisedOf d ≡ 50 * largeCount B (totalHalfSpins d) + 10 * smallCount B (totalHalfSpins d)
+  unfolding standardisedOf
+  standardised-by-counts = walked-is 50 10 B (totalHalfSpins d)

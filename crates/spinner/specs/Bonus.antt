@@ -5,6 +5,7 @@ use mathlib.Core.Bool.{Bool, cond, _&&_}
 use lib.Dec.{ltb, eqb}
 use lib.Ieee.{Float}
 use Rattle.spinner.specs.HalfSpins.{totalHalfSpins, requiredHalfSpins}
+use Rattle.spinner.specs.declared.BonusScores.{BonusScores}
 
 -- the half spin i earns the large bonus
 abbrev pub isLarge : ℕ → ℕ → Bool
@@ -19,6 +20,15 @@ unfoldable pub halfSpinPoints : ℕ → ℕ → ℕ → ℕ → ℕ
 halfSpinPoints large small b zero = 0
 halfSpinPoints large small b (suc i) = halfSpinPoints large small b i + cond (isLarge b i) large (cond (isSmall i) small 0)
 
+-- before the first half spin
+abbrev pub noBonus : BonusScores
+noBonus = record { legacy = record { 0 = 0 }; standardised = record { 0 = 0 } }
+
+-- both sums before the half spin i: those of the half spins 0 to i - 1
+abbrev pub sumsBefore : ℕ → ℕ → BonusScores
+sumsBefore b i = record { legacy = record { 0 = halfSpinPoints 1100 100 b i }; standardised = record { 0 = halfSpinPoints 50 10 b i } }
+
+-- "For i from 0 to T", of a duration
 unfoldable pub legacyOf : Float → ℕ
 legacyOf d = halfSpinPoints 1100 100 (requiredHalfSpins d + 3) (suc (totalHalfSpins d))
 

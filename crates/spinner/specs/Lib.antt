@@ -1,3 +1,2 @@
 pub mod HalfSpins
 pub mod Bonus
-pub mod Spinning

@@ -1,10 +1,8 @@
-// The bonus points of a spinner, by two counts over its half spins.
-use numbers::naturals::monus;
+// The bonus points of a spinner: its half spins are gone through one by one, in the public source's order.
 ghost use mathlib.Core.Path.{_≡_};
-ghost use Prim.Native.Nat.{_+_, _-_, _<_, _≤_, _^_};
+ghost use Prim.Native.Nat.{suc, _<_, _^_};
 ghost use Rattle.spinner.specs.HalfSpins.{totalHalfSpins, requiredHalfSpins};
-ghost use Rattle.spinner.specs.Bonus.{largeCount, smallCount, legacyOf, standardisedOf};
-ghost use Rattle.spinner.specs.Spinning.{SpunBy};
+ghost use Rattle.spinner.specs.Bonus.{noBonus, sumsBefore, legacyOf, standardisedOf};
 
 // T and R: the half spins that the duration allows, and those that completing the spinner takes.
 pub struct HalfSpins {
@@ -22,34 +20,6 @@ pub fn half_spins(duration: f64) -> HalfSpins
     }
 }
 
-pub struct SpinCounts {
-    pub large: u64,
-    pub small: u64,
-}
-
-// How many half spins up to `total` give the large and the small bonus, with `before` half spins before the bonus.
-fn count_spins(total: u64, before: u64) -> SpinCounts
-    ensures { λ c. ⌜ (c .large ≡ largeCount before total) × (c .small ≡ smallCount before total) × (c .large ≤ total) × (c .small ≤ total) ⌝ }
-{
-    let large = monus(total, before) / 2;
-    if before % 2 == 0 {
-        if total < before {
-            return SpinCounts {
-                large,
-                small: total / 2,
-            };
-        }
-        return SpinCounts {
-            large,
-            small: before / 2,
-        };
-    }
-    SpinCounts {
-        large,
-        small: total / 2,
-    }
-}
-
 // The two units of bonus points, which are never added to each other.
 pub struct LegacyBonusScore(pub u64);
 
@@ -60,29 +30,56 @@ pub struct BonusScores {
     pub standardised: StandardisedBonusScore,
 }
 
-// What a spinner gives, with the half spins that it comes of.
-pub struct Spun {
-    pub half_spins: HalfSpins,
-    pub bonus: BonusScores,
-}
+impl BonusScores {
+    // Before the first half spin.
+    fn new() -> Self
+        ensures { λ r. ⌜ r ≡ noBonus ⌝ }
+    {
+        BonusScores {
+            legacy: LegacyBonusScore(0),
+            standardised: StandardisedBonusScore(0),
+        }
+    }
 
-pub fn spin(duration: f64) -> Spun
-    ensures { λ r. ⌜ SpunBy duration r ⌝ }
-{
-    let h = half_spins(duration);
-    let c = count_spins(h.total, h.required + 3);
-    Spun {
-        half_spins: h,
-        bonus: BonusScores {
-            legacy: LegacyBonusScore(c.large * 1100 + c.small * 100),
-            standardised: StandardisedBonusScore(c.large * 50 + c.small * 10),
-        },
+    // Behind the half spin i, from the sums before it; B half spins earn no large bonus.
+    fn half_spin(self, i: u64, before: u64) -> Self
+        requires { ⌜ (self ≡ sumsBefore before i) × (i < 2 ^ 31) ⌝ }
+        ensures { λ r. ⌜ r ≡ sumsBefore before (suc i) ⌝ }
+    {
+        if before < i && (i - before) % 2 == 0 {
+            return BonusScores {
+                legacy: LegacyBonusScore(self.legacy.0 + 1100),
+                standardised: StandardisedBonusScore(self.standardised.0 + 50),
+            };
+        }
+        if 1 < i && i % 2 == 0 {
+            return BonusScores {
+                legacy: LegacyBonusScore(self.legacy.0 + 100),
+                standardised: StandardisedBonusScore(self.standardised.0 + 10),
+            };
+        }
+        self
     }
 }
 
+// The half spins 0 to T, with B of them before the bonus.
+fn walk_half_spins(total: u64, before: u64) -> BonusScores
+    requires { ⌜ total < 2 ^ 31 ⌝ }
+    ensures { λ r. ⌜ r ≡ sumsBefore before (suc total) ⌝ }
+{
+    let mut sums = BonusScores::new();
+    let mut i = 0;
+    while i <= total {
+        sums = sums.half_spin(i, before);
+        i += 1;
+    }
+    sums
+}
+
+// Document 01's B is three half spins more than completing the spinner takes.
 pub fn bonus(duration: f64) -> BonusScores
     ensures { λ r. ⌜ (r .legacy .0 ≡ legacyOf duration) × (r .standardised .0 ≡ standardisedOf duration) ⌝ }
 {
-    let spun = spin(duration);
-    spun.bonus
+    let h = half_spins(duration);
+    walk_half_spins(h.total, h.required + 3)
 }

@@ -1,5 +1,6 @@
 -- The passed objects, then the rest.
 use mathlib.Core.Path.{sym, ap, _∙_, subst}
+use mathlib.Core.Bool.{true}
 use native.Mathlib.Omega.{arith}
 use denote.Ref.{now}
 use Rattle.rules.proofs.Laws.{so}
@@ -42,7 +43,7 @@ read-rest-requires c κs =
     let s = now (start .args .s) in
     let at = from .objects-from .ensures in
     let e = so (c .before .state .given .1) (ran .run .ensures) ∙ ran-from s (start .args .breaks) (start .args .passed) _ _ _ (least .least .ensures) at (new .new .ensures) in
-    (small-ran _ s (objectsAt (objectsFrom (start .args .breaks))) _ (small-start s (objectsFrom (start .args .breaks)) (start .pre .1)) (omega arith) e, start .pre .0)
+    (small-ran true _ s (objectsAt (objectsFrom (start .args .breaks))) _ (small-start s (objectsFrom (start .args .breaks)) (start .pre .1)) (omega arith) e, start .pre .0)
 
 returns : tie.Need-returns
 returns c =

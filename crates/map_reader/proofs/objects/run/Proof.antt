@@ -7,13 +7,13 @@ use Rattle.map_reader.proofs.objects.run.Statement.{statement}
 use Rattle.map_reader.proofs.objects.run.Tie as tie
 
 abbrev Inv-loop : tie.InvT-loop
-Inv-loop s limit state₀ state = Running s limit state₀ state
+Inv-loop s limit walks state₀ state = Running walks s limit state₀ state
 
 abbrev μ-loop : tie.MeasureT-loop
-μ-loop s limit state₀ state = limit - state .nested .«object_count»
+μ-loop s limit walks state₀ state = limit - state .nested .«object_count»
 
 loop-holds : tie.Need-loop-holds Inv-loop μ-loop
-loop-holds c = running-start _ _ _ (c .before .pre .0)
+loop-holds c = running-start _ _ _ _ (c .before .pre .0)
 
 with-next-requires : tie.Need-with-next-requires Inv-loop μ-loop
 with-next-requires c κs = running-room (c .before .before .loop .inv) (c .before .before .before .before .pre .1) (c .if1 .taken)

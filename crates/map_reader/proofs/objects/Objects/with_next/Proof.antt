@@ -7,6 +7,7 @@ use lib.ListN.{length, take, drop}
 use Rattle.records.specs.Records.{CI, SL, SP}
 use Rattle.map_file.proofs.Steps.{rest-is}
 use Rattle.map_reader.proofs.Running.{next-short, next-by, next-none, circle-at, slider-at, spinner-at}
+use Rattle.map_reader.proofs.Stepping.{circle-either, slider-either}
 use borrow.Author.Needs.{needs}
 use Rattle.map_reader.proofs.objects.Objects.with_next.Statement.{statement}
 use Rattle.map_reader.proofs.objects.Objects.with_next.Tie as tie
@@ -15,7 +16,7 @@ add-if1 : tie.Need-add-if1
 add-if1 c = search needs
 
 returns : tie.Need-returns
-returns c = let start = c .before .before in next-short (now (start .args .s)) (start .args .self) (c .if1 .taken)
+returns c = let start = c .before .before in next-short (start .args .walks) (now (start .args .s)) (start .args .self) (c .if1 .taken)
 
 sub-r : tie.Need-sub-r
 sub-r c = search needs
@@ -39,7 +40,7 @@ returns-2 c =
     let start = long .before .before in
     let s = now (start .args .s) in
     let at = start .args .self .at in
-    next-by s (start .args .self) (omega (arith, long .if1 .left)) (take (length s - at) (drop at s)) (rest-is s at) CI (sym (c .before .if2 .taken) ∙ word .word-at .ensures .0) _ (circle-at _) _ (c .with-circle .ensures)
+    next-by (start .args .walks) s (start .args .self) (omega (arith, long .if1 .left)) (take (length s - at) (drop at s)) (rest-is s at) CI (sym (c .before .if2 .taken) ∙ word .word-at .ensures .0) _ (circle-at _) _ (c .with-circle .ensures ∙ circle-either (start .args .walks) (start .args .self) _)
 
 with-slider-requires : tie.Need-with-slider-requires
 with-slider-requires c κs = search needs
@@ -51,7 +52,7 @@ returns-3 c =
     let start = long .before .before in
     let s = now (start .args .s) in
     let at = start .args .self .at in
-    next-by s (start .args .self) (omega (arith, long .if1 .left)) (take (length s - at) (drop at s)) (rest-is s at) SL (sym (c .before .if3 .taken) ∙ word .word-at .ensures .0) _ (slider-at _) _ (c .with-slider .ensures)
+    next-by (start .args .walks) s (start .args .self) (omega (arith, long .if1 .left)) (take (length s - at) (drop at s)) (rest-is s at) SL (sym (c .before .if3 .taken) ∙ word .word-at .ensures .0) _ (slider-at _) _ (c .with-slider .ensures ∙ slider-either (start .args .walks) (start .args .self) _)
 
 with-spinner-requires : tie.Need-with-spinner-requires
 with-spinner-requires c κs = search needs
@@ -63,7 +64,7 @@ returns-4 c =
     let start = long .before .before in
     let s = now (start .args .s) in
     let at = start .args .self .at in
-    next-by s (start .args .self) (omega (arith, long .if1 .left)) (take (length s - at) (drop at s)) (rest-is s at) SP (sym (c .before .if4 .taken) ∙ word .word-at .ensures .0) _ (spinner-at _) _ (c .with-spinner .ensures)
+    next-by (start .args .walks) s (start .args .self) (omega (arith, long .if1 .left)) (take (length s - at) (drop at s)) (rest-is s at) SP (sym (c .before .if4 .taken) ∙ word .word-at .ensures .0) _ (spinner-at _) _ (c .with-spinner .ensures)
 
 returns-5 : tie.Need-returns-5
 returns-5 c =
@@ -72,7 +73,7 @@ returns-5 c =
     let start = long .before .before in
     let s = now (start .args .s) in
     let at = start .args .self .at in
-    next-none s (start .args .self) (omega (arith, long .if1 .left)) (take (length s - at) (drop at s)) (rest-is s at) _ (word .word-at .ensures .0) (c .before .before .if2 .left) (c .before .if3 .left) (c .if4 .left)
+    next-none (start .args .walks) s (start .args .self) (omega (arith, long .if1 .left)) (take (length s - at) (drop at s)) (rest-is s at) _ (word .word-at .ensures .0) (c .before .before .if2 .left) (c .before .if3 .left) (c .if4 .left)
 
 pub with-next-spec : {M : Type 1} → statement M
 with-next-spec =

@@ -1,4 +1,5 @@
 -- What was read is the object that the definition finds, and the state goes its step.
+use mathlib.Core.Bool.{true}
 use mathlib.Core.List.{[], _∷_}
 use mathlib.Core.Path.{_∙_}
 use native.Mathlib.Omega.{arith}
@@ -23,7 +24,7 @@ enum-told c = search needs
 returns : tie.Need-returns
 returns c =
     let start = c .before .before .before .before in
-    stops (start .args .self) (sliderOf (now (start .args .r))) _ (so (c .enum-told .given .1) (c .before .before .read-slider .ensures))
+    stops true (start .args .self) (sliderOf (now (start .args .r))) _ (so (c .enum-told .given .1) (c .before .before .read-slider .ensures))
 
 enum-known-item-2 : tie.Need-enum-known-item-2
 enum-known-item-2 c = search needs
@@ -80,7 +81,7 @@ returns-4 c =
     let k = slider-read (now (start .args .r)) _ _ e in
     let i = c .before .before .before .before .before .before .before .before .before .item2 .given .1 in
     let free = slider-free _ (k .kind) in
-    next-is k _ i (start .args .self) _ (c .before .before .before .before .before .before .kind .given .1) _ (c .before .slider .ensures) _ (c .process-next .ensures) (omega (arith, free, start .pre .0 .2))
+    next-is k _ i true (start .args .self) _ (c .before .before .before .before .before .before .kind .given .1) _ (c .before .slider .ensures) _ (c .process-next .ensures) (omega (arith, free, start .pre .0 .2))
 
 pub with-slider-spec : {M : Type 1} → statement M
 with-slider-spec =

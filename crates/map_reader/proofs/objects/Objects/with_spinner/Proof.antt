@@ -23,7 +23,7 @@ enum-told c = search needs
 returns : tie.Need-returns
 returns c =
     let start = c .before .before .before .before in
-    stops (start .args .self) (spinnerOf (now (start .args .r))) _ (so (c .enum-told .given .1) (c .before .before .read-spinner .ensures))
+    stops (start .args .walks) (start .args .self) (spinnerOf (now (start .args .r))) _ (so (c .enum-told .given .1) (c .before .before .read-spinner .ensures))
 
 enum-known-item-2 : tie.Need-enum-known-item-2
 enum-known-item-2 c = search needs
@@ -44,8 +44,8 @@ returns-3 c =
     let is = kind-is k _ (c .before .before .item2 .given .1) ∙ spinner-of _ (k .kind) in
     absurd (miss (0 ∷ 1 ∷ []) 2 tt (rw is at (c .match3 .keys2)))
 
-spinner-requires : tie.Need-spinner-requires
-spinner-requires c κs = search needs
+spun-requires : tie.Need-spun-requires
+spun-requires c κs = search needs
 
 returns-4 : tie.Need-returns-4
 returns-4 c =
@@ -53,11 +53,11 @@ returns-4 c =
     let e = so (c .before .before .before .before .before .before .before .before .before .before .before .before .item .given .1) (c .before .before .before .before .before .before .before .before .before .before .before .before .before .before .read-spinner .ensures) in
     let k = spinner-read (now (start .args .r)) _ _ e in
     let i = c .before .before .before .before .before .before .before .before .before .item2 .given .1 in
-    over-is k _ i (start .args .self) _ (c .before .before .before .before .before .before .kind .given .1) _ (c .before .before .spinner .ensures) (c .if1 .taken)
+    over-is k _ i (start .args .walks) (start .args .self) _ (c .before .before .before .before .before .before .kind .given .1) _ (c .before .before .spun .ensures) (c .if1 .taken)
 
-add-t13 : tie.Need-add-t13
+add-t14 : tie.Need-add-t14
 unfolding objectOf
-add-t13 c =
+add-t14 c =
     let start = c .before .before .before .before .before .before .before .before .before .before .before .before .before .before .before .before .before in
     let e = so (c .before .before .before .before .before .before .before .before .before .before .before .before .before .item .given .1) (c .before .before .before .before .before .before .before .before .before .before .before .before .before .before .before .read-spinner .ensures) in
     let k = spinner-read (now (start .args .r)) _ _ e in
@@ -81,8 +81,8 @@ returns-5 c =
     let k = spinner-read (now (start .args .r)) _ _ e in
     let i = c .before .before .before .before .before .before .before .before .before .before .before .item2 .given .1 in
     let j = c .before .before .before .before .before .before .before .before .kind .given .1 in
-    let most = next-bonus k _ i (start .args .self) _ j _ (c .before .before .before .before .spinner .ensures) in
-    next-is k _ i (start .args .self) _ j _ (c .before .before .before .before .spinner .ensures) _ (c .process-next .ensures) (omega (arith, most, c .before .before .if1 .left))
+    let most = next-bonus k _ i (start .args .walks) (start .args .self) _ j _ (c .before .before .before .before .spun .ensures) in
+    next-is k _ i (start .args .walks) (start .args .self) _ j _ (c .before .before .before .before .spun .ensures) _ (c .process-next .ensures) (omega (arith, most, c .before .before .if1 .left))
 
 pub with-spinner-spec : {M : Type 1} → statement M
 with-spinner-spec =
@@ -96,8 +96,8 @@ with-spinner-spec =
     returns-2
     enum-known-kind
     returns-3
-    spinner-requires
+    spun-requires
     returns-4
-    add-t13
+    add-t14
     process-next-requires
     returns-5)

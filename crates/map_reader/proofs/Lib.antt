@@ -1,5 +1,6 @@
 pub mod Stepping
 pub mod Running
+pub mod Bare
 pub mod Heads
 pub mod Records
 pub mod Files

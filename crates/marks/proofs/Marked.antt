@@ -19,7 +19,10 @@ use Rattle.map_file.proofs.Reading.{Chain, start, longer, found-ordered, chain-
 use Rattle.map_file.proofs.Room.{Begun, record-begun}
 use Rattle.simulator.specs.Attributes.{scoreAttributesAt}
 use Rattle.simulator.specs.declared.attributes.ScoreAttributes.{ScoreAttributes}
-use Rattle.map_reader.specs.Objects.{objectsAt, ranOf, Small}
+use Rattle.simulator.specs.Attributes.{scoreAttributesOf, legacyAttributesOf, difficultyAttributesOf, bonusRatioOf}
+use Rattle.simulator.proofs.Bounds.{within-more, counted-more}
+use Rattle.map_reader.specs.Objects.{ranOf, Small}
+use Rattle.map_reader.specs.Attributes.{drainIn, Complete, attributesIn}
 use Rattle.map_reader.specs.Map.{objectsFrom, StateOf, RanTo, to, MapIs}
 use Rattle.map_reader.specs.declared.objects.Objects.{Objects}
 use Rattle.map_reader.specs.declared.objects.Ran.{Ran}
@@ -28,10 +31,11 @@ use Rattle.map_reader.specs.declared.map.Map.{Map}
 use Rattle.map_reader.proofs.Running.{countOf, small-start, small-ran, ran-none}
 use Rattle.map_reader.proofs.Files.{chain-standing, state-count}
 use Rattle.map_reader.proofs.Runs.{ranThen, ran-append}
-use Rattle.map_reader.proofs.Attributed.{limits, attributes-are}
+use Rattle.map_reader.proofs.Bare.{bare, ran-bare}
+use Rattle.map_reader.proofs.Attributed.{limits, complete, attributes-are}
 use Rattle.map_reader.proofs.Passed.{attributes-passed}
-use Rattle.play_score.specs.PlayRules.{playScore, scoredOf}
-use Rattle.marks.specs.Marks.{strideOf, IsMap, stateIn, stateOr, IsMark, MarksOf, passedOf, markBefore, StateBefore, withPassed, scoredFrom}
+use Rattle.play_score.specs.PlayRules.{exceeds, playScore, scoredOf}
+use Rattle.marks.specs.Marks.{strideOf, IsMap, stateIn, stateOr, firstOf, IsMark, MarksOf, passedOf, markBefore, StateBefore, withPassed, attributesFrom, scoredAnew, withoutBonus}
 use Rattle.marks.specs.declared.Marks.{Marks}
 
 -- ---- numbers of marks
@@ -58,18 +62,27 @@ chain-breaks s f (longer {f = g} {r = (object o, n)} c l e) b h =
 chain-breaks s f (longer {f = g} {r = (play p, n)} c l e) b h = absurd (omega (arith, h))
 
 -- ---- the states behind the objects of a map
-ran-is : {os : List Object} (x : Objects) (r : Ran) → RanTo os r → ran.To (stateIn x r) ≡ r
-ran-is x (ran.To y) (to k) = refl
-
 state-out : {os : List Object} {x : Objects} → RanTo os (ran.To x) → StateOf os x
 state-out (to k) = k
+
+data IsTo : Ran → Type 0 where
+  is-to : {x : Objects} → IsTo (ran.To x)
+
+ran-is : (x : Objects) (r : Ran) → IsTo r → ran.To (stateIn x r) ≡ r
+ran-is x (ran.To y) is-to = refl
+
+-- a state, or what of it is known where no half spin is walked
+abbrev seen : Bool → Objects → Objects
+seen true x = x
+seen false x = bare x
+
+seen-count : (w : Bool) (x : Objects) → countOf (seen w x) ≡ countOf x
+seen-count true x = refl
+seen-count false x = refl
 
 module _ {s : List ℕ} {m : Map} (w : IsMap s m) where
   abbrev os : List Object
   os = w .is .file .map .objects
-
-  abbrev first : Objects
-  first = objectsAt (objectsFrom (m .breaks))
 
   pub few-objects : m .objects ≤ maxObjects
   few-objects = let e = w .is .objects in let h = limits (w .is) .few-objects in omega (arith, e, h)
@@ -77,7 +90,7 @@ module _ {s : List ℕ} {m : Map} (w : IsMap s m) where
   pub few-breaks : m .breaks ≤ maxBreaks
   few-breaks = let e = w .is .breaks in let h = limits (w .is) .few-breaks in omega (arith, e, h)
 
-  small-first : Small s first
+  pub small-first : Small s (firstOf m)
   small-first =
       let f = w .is .file in
       let e = w .is .breaks in
@@ -85,34 +98,49 @@ module _ {s : List ℕ} {m : Map} (w : IsMap s m) where
       let to = chain-inside s f (w .is .chain) in
       small-start s (objectsFrom (m .breaks)) (omega (arith, e, from, to))
 
-  module _ (n : ℕ) (x : Objects) (h : n ≤ m .objects) (e : ran.To x ≡ ranOf n s first) where
-    behind-state : StateOf (take n os) x
-    behind-state = state-out (subst (RanTo (take n os)) (sym e) (w .is .states n (let most = few-objects in omega (arith, h, most))))
+  -- what a run comes to
+  record Reached (b : Bool) (n : ℕ) (r : Ran) : Type 0 where
+    y : Objects
+    state : StateOf (take n os) y
+    is : r ≡ ran.To (seen b y)
+
+  reached : (b : Bool) (n : ℕ) → n ≤ m .objects → Reached b n (ranOf b n s (firstOf m))
+  reached b n h = go b (ranOf true n s (firstOf m)) refl (w .is .states n (let most = few-objects in omega (arith, h, most)))
+    where
+      go : (b : Bool) (r : Ran) → ranOf true n s (firstOf m) ≡ r → RanTo (take n os) r → Reached b n (ranOf b n s (firstOf m))
+      go true (ran.To y) e (to k) = record { y = y; state = k; is = e }
+      go false (ran.To y) e (to k) = record { y = y; state = k; is = sym (ran-bare n s (firstOf m) y (sym e)) }
+
+  module _ (b : Bool) (n : ℕ) (x : Objects) (h : n ≤ m .objects) (e : ran.To x ≡ ranOf b n s (firstOf m)) where
+    abbrev behind : Objects
+    behind = reached b n h .y
+
+    behind-is : x ≡ seen b behind
+    behind-is = let z : ran.To x ≡ ran.To (seen b behind) = e ∙ reached b n h .is in cc
 
     behind-count : countOf x ≡ n
-    behind-count = state-count behind-state ∙ length-take n os ∙ (let z = w .is .objects in omega (arith, h, z))
+    behind-count = ap countOf behind-is ∙ seen-count b behind ∙ state-count (reached b n h .state) ∙ length-take n os ∙ (let z = w .is .objects in omega (arith, h, z))
 
     pub behind-small : Small s x
-    behind-small = small-ran n s first x small-first (let most = few-objects in omega (arith, h, most)) e
+    behind-small = small-ran b n s (firstOf m) x small-first (let most = few-objects in omega (arith, h, most)) e
 
   -- from one state to a later one
-  behind-later : (a n : ℕ) (x : Objects) → a ≤ n → n ≤ m .objects → ran.To x ≡ ranOf a s first → ran.To (stateOr s x n) ≡ ranOf n s first
-  behind-later a n x l h e =
-      let count = behind-count a x (omega (arith, l, h)) e in
+  behind-later : (b : Bool) (a n : ℕ) (x : Objects) → a ≤ n → n ≤ m .objects → ran.To x ≡ ranOf b a s (firstOf m) → ran.To (stateOr b s x n) ≡ ranOf b n s (firstOf m)
+  behind-later b a n x l h e =
+      let count = behind-count b a x (omega (arith, l, h)) e in
       let steps : n ≡ a + (n - countOf x) = omega (arith, count, l) in
-      let same : ranOf n s first ≡ ranOf (n - countOf x) s x = ap (λ (i : ℕ). ranOf i s first) steps ∙ ran-append a (n - countOf x) s first ∙ ap (λ (r : Ran). ranThen r (λ y. ranOf (n - countOf x) s y)) (sym e) in
-      let most = few-objects in
-      ran-is x (ranOf (n - countOf x) s x) (subst (RanTo (take n os)) same (w .is .states n (omega (arith, h, most)))) ∙ sym same
+      let same : ranOf b n s (firstOf m) ≡ ranOf b (n - countOf x) s x = ap (λ (i : ℕ). ranOf b i s (firstOf m)) steps ∙ ran-append b a (n - countOf x) s (firstOf m) ∙ ap (λ (r : Ran). ranThen r (λ y. ranOf b (n - countOf x) s y)) (sym e) in
+      ran-is x (ranOf b (n - countOf x) s x) (subst IsTo (sym (reached b n h .is) ∙ same) is-to) ∙ sym same
 
 -- ---- the loop that sets the marks: i marks stand, and the last is a stride before `count`
 pub record Marking (s : List ℕ) (m : Map) (stride : ℕ) (state : Objects) (states : List Objects) (i count : ℕ) : Type 0 where
   pub stride-is : stride ≡ strideOf (m .objects)
   pub count-is : count ≡ i * stride
-  pub last : ran.To state ≡ ranOf (count - stride) s (objectsAt (objectsFrom (m .breaks)))
+  pub last : ran.To state ≡ ranOf false (count - stride) s (firstOf m)
   pub places : length states ≡ 128
   pub each : (j : ℕ) (d : Objects) → j < i → IsMark s m j (getD states j d)
 
-pub marking-start : (s : List ℕ) (m : Map) (stride : ℕ) (state : Objects) → stride ≡ strideOf (m .objects) → state ≡ objectsAt (objectsFrom (m .breaks))
+pub marking-start : (s : List ℕ) (m : Map) (stride : ℕ) (state : Objects) → stride ≡ strideOf (m .objects) → state ≡ firstOf m
     → Marking s m stride state (replicate 128 state) 1 stride
 marking-start s m stride state e z = record {
   stride-is = e;
@@ -122,8 +150,8 @@ marking-start s m stride state e z = record {
   each = λ j d h. (let none : j ≡ 0 = omega (arith, h) in ap ran.To (getD-replicate 128 j state d (omega (arith, h))) ∙ at-first (j * strideOf (m .objects)) (ap (λ (n : ℕ). n * strideOf (m .objects)) none ∙ omega arith));
 }
   where
-    at-first : (n : ℕ) → n ≡ 0 → ran.To state ≡ ranOf n s (objectsAt (objectsFrom (m .breaks)))
-    at-first n h = ap ran.To z ∙ ran-none n s (objectsAt (objectsFrom (m .breaks))) h
+    at-first : (n : ℕ) → n ≡ 0 → ran.To state ≡ ranOf false n s (firstOf m)
+    at-first n h = ap ran.To z ∙ ran-none false n s (firstOf m) h
 
 module _ {s : List ℕ} {m : Map} {stride : ℕ} {state : Objects} {states : List Objects} {i count : ℕ} (k : Marking s m stride state states i count) where
   -- all marks that there are stand
@@ -141,21 +169,21 @@ module _ {s : List ℕ} {m : Map} {stride : ℕ} {state : Objects} {states : Lis
     marking-place = let e = k .stride-is in let c = k .count-is ∙ ap (λ (n : ℕ). i * n) e in few-marks (m .objects) i (omega (arith, c, h))
 
     pub marking-small : Small s state
-    marking-small = behind-small w (count - stride) state (omega (arith, h)) (k .last)
+    marking-small = behind-small w false (count - stride) state (omega (arith, h)) (k .last)
 
-    later : ran.To (stateOr s state count) ≡ ranOf count s (objectsAt (objectsFrom (m .breaks)))
-    later = behind-later w (count - stride) count state (omega arith) h (k .last)
+    later : ran.To (stateOr false s state count) ≡ ranOf false count s (firstOf m)
+    later = behind-later w false (count - stride) count state (omega arith) h (k .last)
 
-    pub marking-next : (x : Objects) → x ≡ stateOr s state count → Marking s m stride x (set states i x) (i + 1) (count + stride)
+    pub marking-next : (x : Objects) → x ≡ stateOr false s state count → Marking s m stride x (set states i x) (i + 1) (count + stride)
     marking-next x e = record {
       stride-is = k .stride-is;
       count-is = (let c = k .count-is in omega (arith, c));
-      last = here ∙ ap (λ (n : ℕ). ranOf n s (objectsAt (objectsFrom (m .breaks)))) (let z : count ≡ count + stride - stride = omega arith in z);
+      last = here ∙ ap (λ (n : ℕ). ranOf false n s (firstOf m)) (let z : count ≡ count + stride - stride = omega arith in z);
       places = length-set states i x ∙ k .places;
       each = λ j d l. go j d l (ltb j i) refl;
     }
       where
-        here : ran.To x ≡ ranOf count s (objectsAt (objectsFrom (m .breaks)))
+        here : ran.To x ≡ ranOf false count s (firstOf m)
         here = ap ran.To e ∙ later
 
         go : (j : ℕ) (d : Objects) → j < i + 1 → (b : Bool) → ltb j i ≡ b → IsMark s m j (getD (set states i x) j d)
@@ -171,12 +199,12 @@ module _ {s : List ℕ} {m : Map} {stride : ℕ} {state : Objects} {states : Lis
             ap (λ (n : ℕ). ran.To (getD (set states i x) n d)) same
             ∙ ap ran.To (getD-set-same states i x d (omega (arith, room, size)))
             ∙ here
-            ∙ ap (λ (n : ℕ). ranOf n s (objectsAt (objectsFrom (m .breaks)))) steps
+            ∙ ap (λ (n : ℕ). ranOf false n s (firstOf m)) steps
 
 -- ---- a play from a state before it
 -- from its mark, as the code reads it, whatever stands for a state that is not there
 pub mark-there : {s : List ℕ} {m : Map} {marks : Marks} → MarksOf s m marks → (q : Play) (i : ℕ) (d : Objects) → i ≡ markBefore (m .objects) q
-    → StateBefore s m q (getD (marks .states) i d)
+    → StateBefore false s m q (getD (marks .states) i d)
 mark-there {m = m} {marks = marks} k q i d e = record {
   n = markBefore (m .objects) q * strideOf (m .objects);
   passed = mark-stands (m .objects) q;
@@ -184,18 +212,31 @@ mark-there {m = m} {marks = marks} k q i d e = record {
 }
 
 -- from the first object
-pub first-before : (s : List ℕ) (m : Map) (q : Play) → StateBefore s m q (objectsAt (objectsFrom (m .breaks)))
-first-before s m q = record { n = 0; passed = omega arith; is = ran-none 0 s (objectsAt (objectsFrom (m .breaks))) refl }
+pub first-before : (w : Bool) (s : List ℕ) (m : Map) (q : Play) → StateBefore w s m q (firstOf m)
+first-before w s m q = record { n = 0; passed = omega arith; is = ran-none w 0 s (firstOf m) refl }
 
-module _ {s : List ℕ} {p : ℕ} {m : Map} (k : MapIs s p m) (q : Play) (x : Objects) (e : StateBefore s m q x) where
+module _ {s : List ℕ} {p : ℕ} {m : Map} (k : MapIs s p m) (b : Bool) (q : Play) (x : Objects) (e : StateBefore b s m q x) where
   abbrev is-map : IsMap s m
   is-map = record { p = p; is = k }
 
   abbrev n : ℕ
   n = passedOf (m .objects) q
 
-  -- the map with the state behind the play's passed objects
-  pub map-passed : MapIs s n (withPassed m (stateOr s x n))
+  abbrev to-there : ran.To (stateOr b s x n) ≡ ranOf b n s (firstOf m)
+  to-there = behind-later is-map b (e .n) n x (e .passed) (omega arith) (e .is)
+
+  -- the state behind the play's passed objects, its half spins walked
+  abbrev there : Objects
+  there = reached is-map b n (omega arith) .y
+
+  there-is : stateOr b s x n ≡ seen b there
+  there-is = behind-is is-map b n (stateOr b s x n) (omega arith) to-there
+
+  pub there-small : Small s (stateOr b s x n)
+  there-small = behind-small is-map b n (stateOr b s x n) (omega arith) to-there
+
+  -- the map with that state
+  map-passed : MapIs s n (withPassed m there)
   map-passed = record {
     file = k .file;
     chain = k .chain;
@@ -207,14 +248,45 @@ module _ {s : List ℕ} {p : ℕ} {m : Map} (k : MapIs s p m) (q : Play) (x : Ob
     breaks = k .breaks;
     objects = k .objects;
     first = k .first;
-    passed = behind-state is-map n (stateOr s x n) (omega arith) (behind-later is-map (e .n) n x (e .passed) (omega arith) (e .is));
+    passed = reached is-map b n (omega arith) .state;
     states = k .states;
     nexts = k .nexts;
   }
 
-  pub scored-is : scoredFrom s m x q ≡ scoredOf (playScore q (scoreAttributesAt (k .file .map) (q .«passed_objects»)))
+  -- it is complete, with the bonus or without
+  pub complete-there : Complete (withPassed m (stateOr b s x n))
+  complete-there =
+      let h = complete map-passed in
+      let few = there-small .few in
+      (h .0, h .1, within-more _ _ _ few (there-small .score), counted-more _ _ _ few (there-small .nested))
+
+  attributes-there : attributesIn s (withPassed m there) ≡ scoreAttributesAt (k .file .map) (q .«passed_objects»)
   unfolding map-passed
-  scored-is =
+  attributes-there =
       let z = k .objects in
       let same : min n (length (k .file .map .objects)) ≡ min (q .«passed_objects») (length (k .file .map .objects)) = omega (arith, z) in
-      ap (λ (a : ScoreAttributes). scoredOf (playScore q a)) (attributes-are map-passed ∙ attributes-passed (k .file .map) n (q .«passed_objects») same)
+      attributes-are map-passed ∙ attributes-passed (k .file .map) n (q .«passed_objects») same
+
+bare-attributes : (s : List ℕ) (m : Map) (x : Objects) → attributesIn s (withPassed m (bare x)) ≡ withoutBonus (attributesIn s (withPassed m x))
+unfolding scoreAttributesOf legacyAttributesOf difficultyAttributesOf bonusRatioOf drainIn
+bare-attributes s m x = refl
+
+module _ {s : List ℕ} {p : ℕ} {m : Map} (k : MapIs s p m) (q : Play) where
+  abbrev at-passed : ScoreAttributes
+  at-passed = scoreAttributesAt (k .file .map) (q .«passed_objects»)
+
+  -- from the first object the play has its score
+  pub anew-is : scoredAnew s m q ≡ scoredOf (playScore q at-passed)
+  anew-is =
+      let e = first-before true s m q in
+      ap (λ (a : ScoreAttributes). scoredOf (playScore q a)) (ap (λ (y : Objects). attributesIn s (withPassed m y)) (there-is k true q (firstOf m) e) ∙ attributes-there k true q (firstOf m) e)
+
+  -- from a mark all but the bonus of its objects is known
+  pub from-is : (x : Objects) → StateBefore false s m q x → attributesFrom false s m x q ≡ withoutBonus at-passed
+  from-is x e =
+      ap (λ (y : Objects). attributesIn s (withPassed m y)) (there-is k false q x e) ∙ bare-attributes s m (there k false q x e) ∙ ap withoutBonus (attributes-there k false q x e)
+
+-- ---- what is known without a bonus
+pub exceeds-without : (q : Play) (a : ScoreAttributes) → exceeds q (withoutBonus a) ≡ exceeds q a
+unfolding exceeds
+exceeds-without q a = refl

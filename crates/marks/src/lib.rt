@@ -1,4 +1,5 @@
-// The states behind some objects of a map, kept, so that any number of passed objects is a few steps from one of them.
+// The states behind some objects of a map, kept, so that any number of passed objects is a few steps from one of them. They have no bonus, so that no
+// half spin is walked for them: a play is checked and its misses are estimated without.
 use map_reader::attributes::attributes_of;
 use map_reader::map::Map;
 use map_reader::map::objects_from;
@@ -9,12 +10,13 @@ use numbers::naturals::least;
 use play_score::Scored;
 use play_score::score_on;
 use play_state::Play;
+use simulator::attributes::ScoreAttributes;
 ghost use mathlib.Core.Path.{_≡_};
 ghost use Prim.Native.Nat.{_≤_, _<_};
 ghost use Rattle.rules.specs.Limits.{maxObjects};
-ghost use Rattle.map_reader.specs.Objects.{Small, objectsAt};
-ghost use Rattle.map_reader.specs.Map.{objectsFrom};
-ghost use Rattle.marks.specs.Marks.{strideOf, stateOr, IsMap, MarksOf, markBefore, StateBefore, scoredFrom};
+ghost use mathlib.Core.Bool.{false};
+ghost use Rattle.map_reader.specs.Objects.{Small};
+ghost use Rattle.marks.specs.Marks.{strideOf, stateOr, IsMap, MarksOf, markBefore, StateBefore, attributesFrom, scoredAnew};
 
 // The i-th is behind i strides of objects.
 pub struct Marks {
@@ -29,11 +31,11 @@ fn stride_of(objects: u64) -> u64
 }
 
 // The state behind `count` objects, from one before it.
-fn state_at(s: &[u8], from: Objects, count: u64) -> Objects
+fn state_at(s: &[u8], from: Objects, count: u64, walks: bool) -> Objects
     requires { ⌜ Small (now s) from × (count ≤ maxObjects) ⌝ }
-    ensures { λ r. ⌜ r ≡ stateOr (now (s .entry)) from count ⌝ }
+    ensures { λ r. ⌜ r ≡ stateOr walks (now (s .entry)) from count ⌝ }
 {
-    match run(s, from, count) {
+    match run(s, from, count, walks) {
         Ran::To(state) => state,
         Ran::OverBonus(_) => from,
     }
@@ -49,7 +51,7 @@ pub fn marks_of(s: &[u8], map: Map) -> Marks
     let mut i = 1;
     let mut count = stride;
     while count <= map.objects {
-        state = state_at(s, state, count);
+        state = state_at(s, state, count, false);
         states[i] = state;
         i += 1;
         count += stride;
@@ -64,19 +66,31 @@ pub fn mark_before(objects: u64, play: Play) -> usize
     (least(play.passed_objects as u64, objects) / stride_of(objects)) as usize
 }
 
-// A play on a map, from a state before it.
-pub fn score_from(s: &[u8], map: Map, before: Objects, play: Play) -> Scored
-    requires { ⌜ IsMap (now s) map × StateBefore (now s) map play before ⌝ }
-    ensures { λ r. ⌜ r ≡ scoredFrom (now (s .entry)) map before play ⌝ }
+// The attributes of a play's passed objects without their bonus, from a state before it.
+pub fn attributes_from(s: &[u8], map: Map, before: Objects, play: Play) -> ScoreAttributes
+    requires { ⌜ IsMap (now s) map × StateBefore false (now s) map play before ⌝ }
+    ensures { λ r. ⌜ r ≡ attributesFrom false (now (s .entry)) map before play ⌝ }
 {
-    let passed = state_at(s, before, least(play.passed_objects as u64, map.objects));
-    score_on(play, attributes_of(s, Map { passed, ..map }))
+    let passed = state_at(
+        s,
+        before,
+        least(play.passed_objects as u64, map.objects),
+        false,
+    );
+    attributes_of(s, Map { passed, ..map })
 }
 
 // A play on a map, from its first object.
 pub fn score_anew(s: &[u8], map: Map, play: Play) -> Scored
     requires { ⌜ IsMap (now s) map ⌝ }
-    ensures { λ r. ⌜ r ≡ scoredFrom (now (s .entry)) map (objectsAt (objectsFrom (map .breaks))) play ⌝ }
+    ensures { λ r. ⌜ r ≡ scoredAnew (now (s .entry)) map play ⌝ }
 {
-    score_from(s, map, Objects::new(objects_from(map.breaks)), play)
+    let first = Objects::new(objects_from(map.breaks));
+    let passed = state_at(
+        s,
+        first,
+        least(play.passed_objects as u64, map.objects),
+        true,
+    );
+    score_on(play, attributes_of(s, Map { passed, ..map }))
 }

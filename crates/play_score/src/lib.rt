@@ -56,7 +56,8 @@ fn hits_exceed(hits: OsuHitResults, origin: OsuScoreOrigin, attrs: OsuDifficulty
     large_ticks(attrs) < hits.large_tick_hits as u64
 }
 
-fn exceeds_map(play: Play, a: ScoreAttributes) -> bool
+// What a play is refused for on the objects that it passed (9). It takes no bonus of theirs.
+pub fn exceeds_map(play: Play, a: ScoreAttributes) -> bool
     ensures { λ r. ⌜ r ≡ exceeds play a ⌝ }
 {
     let hits = play.hitresults;

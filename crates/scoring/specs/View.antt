@@ -16,6 +16,8 @@ use Rattle.scoring.specs.Scores.{Outcome, refusal, values, Scores, playS
 use Rattle.play_score.specs.PlayRules.{scoredOf}
 use Rattle.play_score.specs.declared.PlayScore.{PlayScore}
 use Rattle.play_score.specs.declared.Scored.{Scored}
+use Rattle.play_score.specs.declared.Scored.the-variants as scored
+use Rattle.marks.specs.Marks.{scoredAnew}
 use Rattle.scoring.specs.declared.plays.Wanted.{Wanted}
 use Rattle.scoring.specs.declared.plays.Wanted.the-variants as wanted
 use Rattle.scoring.specs.declared.plays.Checked.{Checked}
@@ -35,6 +37,10 @@ wantedOf (suc i) (s ∷ ss) = wantedOf i ss
 unfoldable pub wantedAfter : Wanted → PlayScore → Wanted
 wantedAfter (wanted.Is found) s = wanted.Is found
 wantedAfter (wanted.Ahead n) s = pick (eqb n 0) (wanted.Is s) (wanted.Ahead (n - 1))
+
+-- the same by the play on its map, where that is good
+abbrev pub AfterPlay : List ℕ → Map → Play → Wanted → Wanted → Type 0
+AfterPlay s m q w r = (y : PlayScore) → scored.Score y ≡ scoredAnew s m q → r ≡ wantedAfter w y
 
 -- as many of n objects as a count of p passes
 abbrev pub passesAsMany : Play → ℕ → ℕ → Bool

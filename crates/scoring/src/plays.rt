@@ -3,22 +3,25 @@ use map_reader::attributes::attributes_of;
 use map_reader::map::Map;
 use map_reader::map::MapRead;
 use map_reader::map::read_passed;
+use marks::attributes_from;
 use marks::mark_before;
 use marks::marks_of;
 use marks::score_anew;
-use marks::score_from;
 use numbers::naturals::least;
 use play_reader::PlayRead;
 use play_reader::play_at;
 use play_score::PlayScore;
 use play_score::Scored;
+use play_score::exceeds_map;
 use play_score::score_on;
 use play_state::Play;
+use rules::refusal;
 use simulator::attributes::ScoreAttributes;
 ghost use mathlib.Core.Path.{_≡_};
 ghost use Rattle.map_file.specs.File.{fileOf};
+ghost use Rattle.marks.specs.Marks.{IsMap};
 ghost use Rattle.scoring.specs.Scores.{scoresOf};
-ghost use Rattle.scoring.specs.View.{wantedAfter, passesAsMany, AnyPlaying, Attributed, ScoredOn, checkedOf, CheckedFrom, PlaysOf};
+ghost use Rattle.scoring.specs.View.{wantedAfter, AfterPlay, passesAsMany, AnyPlaying, Attributed, ScoredOn, checkedOf, CheckedFrom, PlaysOf};
 
 // The score of the wanted play, or how many plays stand between it and what was read.
 pub enum Wanted {
@@ -52,6 +55,25 @@ impl Wanted {
             }
         }
     }
+
+    // Behind one more play, which is good and is scored only where it is the wanted one.
+    fn after_play(self, s: &[u8], map: Map, play: Play) -> Self
+        requires { ⌜ IsMap (now s) map ⌝ }
+        ensures { λ r. ⌜ AfterPlay (now (s .entry)) map play self r ⌝ }
+    {
+        match self {
+            Wanted::Is(found) => Wanted::Is(found),
+            Wanted::Ahead(ahead) => {
+                if 0 < ahead {
+                    return Wanted::Ahead(ahead - 1);
+                }
+                match score_anew(s, map, play) {
+                    Scored::Score(score) => Wanted::Is(score),
+                    Scored::Refused(_) => Wanted::Ahead(ahead),
+                }
+            }
+        }
+    }
 }
 
 // Of so many objects a play passed as many as a count of passed objects does.
@@ -61,7 +83,7 @@ fn passes_as_many(play: Play, passed: u64, objects: u64) -> bool
     least(play.passed_objects as u64, objects) == least(passed, objects)
 }
 
-// The plays from an offset on, whatever they passed, from marks.
+// The plays from an offset on, whatever they passed, from marks: 9 takes no bonus, so that no spinner is walked for it.
 fn check_any(s: &[u8], map: Map, from: usize, former: Wanted) -> Checked
     requires { ⌜ AnyPlaying (now s) map from former ⌝ }
     ensures { λ r. ⌜ CheckedFrom (now (s .entry)) map from former r ⌝ }
@@ -76,14 +98,13 @@ fn check_any(s: &[u8], map: Map, from: usize, former: Wanted) -> Checked
             }
             PlayRead::Is(play) => {
                 let i = mark_before(map.objects, play);
-                match score_from(s, map, marks.states[i], play) {
-                    Scored::Refused(number) => {
-                        return Checked::Refused { number, offset: at };
-                    }
-                    Scored::Score(score) => {
-                        wanted = wanted.after(score);
-                    }
+                if exceeds_map(play, attributes_from(s, map, marks.states[i], play)) {
+                    return Checked::Refused {
+                        number: refusal::PLAY_EXCEEDS,
+                        offset: at,
+                    };
                 }
+                wanted = wanted.after_play(s, map, play);
             }
         }
         at += Play::SIZE;
@@ -94,20 +115,25 @@ fn check_any(s: &[u8], map: Map, from: usize, former: Wanted) -> Checked
 // To set marks costs a pass of all objects, and as much again as this many.
 const MARKS_COST: usize = 256;
 
-// Whether so many plays cost less from marks than each from the map's first object. Either way gives the same scores, so nothing is promised of it.
-fn marks_pay(plays: usize, objects: u64) -> bool {
+// For so many points of bonus the half spins cost at least as much as an object.
+const OBJECT_BONUS: u64 = 4096;
+
+// Whether so many plays cost less from marks than each from the map's first object, for which spinners are walked too. Either way gives the same scores,
+// so nothing is promised of it.
+fn marks_pay(plays: usize, objects: u64, bonus: u64) -> bool {
     if plays < 2 {
         return false;
     }
     MARKS_COST / (plays - 1) < objects as usize
+        || MARKS_COST / (plays - 1) < (bonus / OBJECT_BONUS) as usize
 }
 
-// Whether a play, the first of so many, is to be scored from marks.
-fn needs_marks(play: Play, passed: u64, objects: u64, plays: usize) -> bool {
-    if passes_as_many(play, passed, objects) {
+// Whether a play, the first of so many, is to be checked from marks.
+fn needs_marks(play: Play, passed: u64, map: Map, plays: usize) -> bool {
+    if passes_as_many(play, passed, map.objects) {
         return false;
     }
-    marks_pay(plays, objects)
+    marks_pay(plays, map.objects, map.passed.score.legacy_bonus_score.0)
 }
 
 // A play behind its map, from the attributes of the first objects where it passed as many.
@@ -134,7 +160,7 @@ pub fn check_behind(s: &[u8], map: Map, a: ScoreAttributes, passed: u64, index: 
                 return Checked::Refused { number, offset: at };
             }
             PlayRead::Is(play) => {
-                if needs_marks(play, passed, map.objects, (s.len() - at) / Play::SIZE) {
+                if needs_marks(play, passed, map, (s.len() - at) / Play::SIZE) {
                     return check_any(s, map, at, wanted);
                 }
                 match score_behind(s, map, a, passed, play) {

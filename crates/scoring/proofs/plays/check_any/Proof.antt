@@ -1,11 +1,14 @@
--- Each play is the definition's next, and from its mark it is scored on its own passed objects.
+-- Each play is the definition's next, and from its mark it is checked on its own passed objects: 9 takes no bonus.
 use mathlib.Core.Path.{sym, ap, _∙_}
 use Prim.Native.Nat.{ℕ, _-_}
 use native.Mathlib.Omega.{arith}
 use lib.ListN.{length}
 use Rattle.rules.proofs.Laws.{so}
 use Rattle.play_reader.proofs.Playing.{read-inside}
-use Rattle.marks.proofs.Marked.{mark-there, scored-is}
+use Rattle.play_score.specs.PlayRules.{exceeds}
+use Rattle.play_score.proofs.Exceeding.{exceeds-refused, exceeds-not}
+use Rattle.marks.proofs.Marked.{mark-there, anew-is, from-is, exceeds-without}
+use Rattle.simulator.specs.declared.attributes.ScoreAttributes.{ScoreAttributes}
 use Rattle.scoring.specs.View.{Playing, checkedOf}
 use Rattle.scoring.proofs.Playing.{playing-cut, playing-refused, playing-more, playing-end}
 use borrow.Author.Needs.{needs}
@@ -42,62 +45,69 @@ enum-known-play c = search needs
 mark-before-requires : tie.Need-mark-before-requires Inv-loop μ-loop
 mark-before-requires c κs = search needs
 
-mul-score-from : tie.Need-mul-score-from Inv-loop μ-loop
-mul-score-from c = search needs
+mul-attributes-from : tie.Need-mul-attributes-from Inv-loop μ-loop
+mul-attributes-from c = search needs
 
-element-copy-out-score-from : tie.Need-element-copy-out-score-from Inv-loop μ-loop
-element-copy-out-score-from c = search needs
+element-copy-out-attributes-from : tie.Need-element-copy-out-attributes-from Inv-loop μ-loop
+element-copy-out-attributes-from c = search needs
 
-score-from-requires : tie.Need-score-from-requires Inv-loop μ-loop
-score-from-requires c κs =
+attributes-from-requires : tie.Need-attributes-from-requires Inv-loop μ-loop
+attributes-from-requires c κs =
     let marked = c .before .before .before .before .before .before .before .before in
     let k = marked .before .before .pre .is in
     (record { p = k .p; is = k .to .map }, mark-there (marked .marks-of .ensures) (c .before .before .before .play .given .0 .0) _ _ (c .before .mark-before .ensures .0))
 
-enum-known-number-2 : tie.Need-enum-known-number-2 Inv-loop μ-loop
-enum-known-number-2 c = search needs
+exceeds-map-requires : tie.Need-exceeds-map-requires Inv-loop μ-loop
+exceeds-map-requires c κs = search needs
 
 returns-2 : tie.Need-returns-2 Inv-loop μ-loop
 returns-2 c =
-    let scored = c .before .before .before in
+    let tested = c .before in
+    let placed = tested .before .before .before in
+    let played = c .before .before .before .before .before .before .before .before in
+    let top = played .before .before in
+    let marked = top .before in
+    let q = c .before .before .before .before .before .before .play in
+    λ i k.
+    let now-at = top .loop .inv i k in
+    let known = from-is (now-at .to .map) (q .given .0 .0) _ (mark-there (marked .marks-of .ensures) (q .given .0 .0) _ _ (placed .mark-before .ensures .0)) in
+    let a = tested .before .attributes-from .ensures ∙ known in
+    let nine = sym (exceeds-without (q .given .0 .0) _) ∙ ap (exceeds (q .given .0 .0)) (sym a) ∙ so (tested .exceeds-map .ensures) (c .if1 .taken) in
+    sym (ap (checkedOf i) (playing-refused now-at (played .before .loop-test .taken) _ (so (q .given .1) (played .play-at .ensures)) _ (exceeds-refused (q .given .0 .0) _ nine)))
+
+after-play-requires : tie.Need-after-play-requires Inv-loop μ-loop
+after-play-requires c κs =
+    let top = c .before .before .before .before .before .before .before .before .before .before in
+    let k = top .before .before .before .pre .is in
+    record { p = k .p; is = k .to .map }
+
+add-at : tie.Need-add-at Inv-loop μ-loop
+add-at c =
+    let played = c .before .before .before .before .before .before .before .before .before in
+    let top = played .before .before in
+    let start = top .before .before .before in
+    let k = top .loop .inv (start .pre .i) (start .pre .is) in
+    let i = read-inside (k .to) (played .before .loop-test .taken) _ (so (c .before .before .before .before .before .before .before .play .given .1) (played .play-at .ensures)) in
+    search needs
+
+loop-less : tie.Need-loop-less Inv-loop μ-loop
+loop-less c = let h = c .before .before .before .before .before .before .before .before .before .before .loop-test .taken in omega (arith, h)
+
+loop-again : tie.Need-loop-again Inv-loop μ-loop
+loop-again c =
+    let tested = c .before .before in
+    let placed = tested .before .before .before in
     let played = c .before .before .before .before .before .before .before .before .before in
     let top = played .before .before in
     let marked = top .before in
     let q = c .before .before .before .before .before .before .before .play in
     λ i k.
     let now-at = top .loop .inv i k in
-    let r = so (c .before .number2 .given .1) (scored .score-from .ensures) ∙ scored-is (now-at .to .map) (q .given .0 .0) _ (mark-there (marked .marks-of .ensures) (q .given .0 .0) _ _ (scored .before .before .mark-before .ensures .0)) in
-    sym (ap (checkedOf i) (playing-refused now-at (played .before .loop-test .taken) _ (so (q .given .1) (played .play-at .ensures)) _ r))
-
-enum-known-score : tie.Need-enum-known-score Inv-loop μ-loop
-enum-known-score c = search needs
-
-after-requires : tie.Need-after-requires Inv-loop μ-loop
-after-requires c κs = search needs
-
-add-at : tie.Need-add-at Inv-loop μ-loop
-add-at c =
-    let played = c .before .before .before .before .before .before .before .before .before .before in
-    let top = played .before .before in
-    let start = top .before .before .before in
-    let k = top .loop .inv (start .pre .i) (start .pre .is) in
-    let i = read-inside (k .to) (played .before .loop-test .taken) _ (so (c .before .before .before .before .before .before .before .before .play .given .1) (played .play-at .ensures)) in
-    search needs
-
-loop-less : tie.Need-loop-less Inv-loop μ-loop
-loop-less c = let h = c .before .before .before .before .before .before .before .before .before .before .before .loop-test .taken in omega (arith, h)
-
-loop-again : tie.Need-loop-again Inv-loop μ-loop
-loop-again c =
-    let scored = c .before .before .before .before in
-    let played = c .before .before .before .before .before .before .before .before .before .before in
-    let top = played .before .before in
-    let marked = top .before in
-    let q = c .before .before .before .before .before .before .before .before .play in
-    λ i k.
-    let now-at = top .loop .inv i k in
-    let r = so (c .before .before .score .given .1) (scored .score-from .ensures) ∙ scored-is (now-at .to .map) (q .given .0 .0) _ (mark-there (marked .marks-of .ensures) (q .given .0 .0) _ _ (scored .before .before .mark-before .ensures .0)) in
-    playing-more now-at (played .before .loop-test .taken) _ (so (q .given .1) (played .play-at .ensures)) _ r _ (c .after .ensures)
+    let known = from-is (now-at .to .map) (q .given .0 .0) _ (mark-there (marked .marks-of .ensures) (q .given .0 .0) _ _ (placed .mark-before .ensures .0)) in
+    let a = tested .before .attributes-from .ensures ∙ known in
+    let none = sym (exceeds-without (q .given .0 .0) _) ∙ ap (exceeds (q .given .0 .0)) (sym a) ∙ so (tested .exceeds-map .ensures) (c .before .if1 .left) in
+    let r = exceeds-not (q .given .0 .0) _ none in
+    playing-more now-at (played .before .loop-test .taken) _ (so (q .given .1) (played .play-at .ensures)) _ r _ (c .after-play .ensures _ (r ∙ sym (anew-is (now-at .to .map) (q .given .0 .0))))
 
 returns-3 : tie.Need-returns-3 Inv-loop μ-loop
 returns-3 c = λ i k. playing-end (c .before .loop .inv i k) (c .loop-test .left)
@@ -115,13 +125,12 @@ check-any-spec =
     returns
     enum-known-play
     mark-before-requires
-    mul-score-from
-    element-copy-out-score-from
-    score-from-requires
-    enum-known-number-2
+    mul-attributes-from
+    element-copy-out-attributes-from
+    attributes-from-requires
+    exceeds-map-requires
     returns-2
-    enum-known-score
-    after-requires
+    after-play-requires
     add-at
     loop-less
     loop-again

@@ -1,7 +1,7 @@
 -- The attributes are those of the play's passed objects, known or worked out anew.
 use mathlib.Core.Path.{sym, _∙_}
 use denote.Ref.{now}
-use Rattle.marks.proofs.Marked.{first-before, scored-is}
+use Rattle.marks.proofs.Marked.{anew-is}
 use Rattle.scoring.proofs.Playing.{same-passed}
 use borrow.Author.Needs.{needs}
 use Rattle.scoring.proofs.plays.score_behind.Statement.{statement}
@@ -25,7 +25,7 @@ score-anew-requires c κs = let start = c .before .before .before in record { p 
 returns-2 : tie.Need-returns-2
 returns-2 c =
     let start = c .before .before .before .before in
-    λ k. c .score-anew .ensures ∙ scored-is (k .map) (start .args .play) _ (first-before (now (start .args .s)) (start .args .map) (start .args .play))
+    λ k. c .score-anew .ensures ∙ anew-is (k .map) (start .args .play)
 
 pub score-behind-spec : {M : Type 1} → statement M
 score-behind-spec =

@@ -1,5 +1,6 @@
 -- What the loop that writes the plays' lines keeps: the space has the lines of the plays read so far behind what it had before. Assumes nothing.
 use mathlib.Core.Path.{_≡_, refl, sym, ap, _∙_, subst}
+use mathlib.Core.Bool.{Bool, true, false}
 use mathlib.Core.List.{List, [], _∷_, _++_, append-nil, append-assoc}
 use Prim.Native.Nat.{ℕ, suc, _+_, _≤_, _<_, min}
 use native.Mathlib.Omega.{arith}
@@ -12,15 +13,19 @@ use Rattle.map_file.specs.File.{fileOf}
 use Rattle.map_file.proofs.Reading.{length-snoc}
 use Rattle.map_reader.specs.declared.map.Map.{Map}
 use Rattle.map_reader.specs.declared.objects.Objects.{Objects}
-use Rattle.marks.specs.Marks.{MarksOf, markBefore, scoredFrom}
+use Rattle.marks.specs.Marks.{MarksOf, markBefore, attributesFrom}
 use Rattle.marks.specs.declared.Marks.{Marks}
-use Rattle.marks.proofs.Marked.{mark-there, scored-is}
+use Rattle.marks.proofs.Marked.{mark-there, from-is}
 use Rattle.play_state.specs.declared.Play.{Play}
 use Rattle.play_reader.specs.Plays.{playIn}
 use Rattle.play_reader.specs.declared.PlayRead.the-variants as read
-use Rattle.play_score.specs.PlayRules.{scoredOf}
+use Rattle.simulator.specs.Attributes.{scoreAttributesAt}
+use Rattle.simulator.specs.declared.attributes.ScoreAttributes.{ScoreAttributes}
+use Rattle.estimates.specs.Effective.{estimatesOf}
+use Rattle.estimates.specs.declared.calculator.Estimates.{Estimates}
+use Rattle.play_score.specs.PlayRules.{exceeds, scoredOf}
+use Rattle.play_score.proofs.Exceeding.{scoreOf, exceeds-refused, exceeds-not}
 use Rattle.play_score.specs.declared.PlayScore.{PlayScore}
-use Rattle.play_score.specs.declared.Scored.{Scored}
 use Rattle.play_score.specs.declared.Scored.the-variants as scored
 use Rattle.scoring.specs.Scores.{refusal, playScoreOn, scoresOf}
 use Rattle.scoring.specs.View.{wantedAfter, Playing}
@@ -74,21 +79,25 @@ not-refused : {A : Type 0} {s : List ℕ} {m : Map} (k : GoodFile s m) (n at : �
 not-refused k n at e = let same = sym (k .good) ∙ e in never (cc)
 
 module _ {s : List ℕ} {m : Map} {space₀ : List ℕ} {from at index : ℕ} {space : List ℕ} {to : ℕ} (k : Writing s m space₀ from at index space to) where
-  -- from its mark a play has its score
-  pub from-mark : {marks : Marks} → MarksOf s m marks → (q : Play) (i : ℕ) (d : Objects) → i ≡ markBefore (m .objects) q → (r : Scored)
-      → r ≡ scoredFrom s m (getD (marks .states) i d) q → r ≡ scoredOf (playScoreOn (mapOf (k .playing)) q)
-  from-mark w q i d e r h = h ∙ scored-is (k .playing .to .map) q _ (mark-there w q i d e)
+  -- the attributes of the objects that a play passed
+  abbrev at-passed : Play → ScoreAttributes
+  at-passed q = scoreAttributesAt (mapOf (k .playing)) (q .«passed_objects»)
+
+  -- from its mark a play has its estimates
+  pub from-mark : {marks : Marks} → MarksOf s m marks → (q : Play) (i : ℕ) (d : Objects) → i ≡ markBefore (m .objects) q → (a : ScoreAttributes)
+      → a ≡ attributesFrom false s m (getD (marks .states) i d) q → (r : Estimates) → r ≡ estimatesOf q (a .difficulty) → r ≡ estimatesOf q (at-passed q .difficulty)
+  from-mark w q i d e a h r z = z ∙ ap (λ (x : ScoreAttributes). estimatesOf q (x .difficulty)) (h ∙ from-is (k .playing .to .map) q _ (mark-there w q i d e))
 
   module _ (h : at < length s) where
     pub writing-cut : {A : Type 0} → GoodFile s m → (n : ℕ) → read.Refused n ≡ playIn (drop at s) → A
     writing-cut good n e = not-refused good n at (playing-cut (k .playing) h n e)
 
     module _ (q : Play) (e : read.Is q ≡ playIn (drop at s)) where
-      pub writing-refused : {A : Type 0} → GoodFile s m → (n : ℕ) → scored.Refused n ≡ scoredOf (playScoreOn (mapOf (k .playing)) q) → A
+      writing-refused : {A : Type 0} → GoodFile s m → (n : ℕ) → scored.Refused n ≡ scoredOf (playScoreOn (mapOf (k .playing)) q) → A
       writing-refused good n r = not-refused good n at (playing-refused (k .playing) h q e n r)
 
       -- one more line
-      pub writing-more : (y : PlayScore) → scored.Score y ≡ scoredOf (playScoreOn (mapOf (k .playing)) q) → (space′ : List ℕ) (to′ : ℕ)
+      writing-more : (y : PlayScore) → scored.Score y ≡ scoredOf (playScoreOn (mapOf (k .playing)) q) → (space′ : List ℕ) (to′ : ℕ)
           → Puts space to (playLine index (y .estimates)) space′ to′ → Writing s m space₀ from (at + 44) (index + 1) space′ to′
       writing-more y r space′ to′ puts =
           let few = k .few in
@@ -103,6 +112,15 @@ module _ {s : List ℕ} {m : Map} {space₀ : List ℕ} {from at index : ℕ} {s
                 subst (λ (x : List ℕ). Written space₀ from x space′ to′) (one-more (k .playing .scores) y (k .count) ∙ ap (playLines 0) more)
                 (next (k .written) (playLine index (y .estimates)) puts);
           }
+
+      -- a good file's play is not refused, so that its estimates are those of its score
+      pub writing-line : GoodFile s m → (r : Estimates) → r ≡ estimatesOf q (at-passed q .difficulty) → (space′ : List ℕ) (to′ : ℕ)
+          → Puts space to (playLine index r) space′ to′ → Writing s m space₀ from (at + 44) (index + 1) space′ to′
+      writing-line good r z space′ to′ puts = go (exceeds q (at-passed q)) refl
+        where
+          go : (b : Bool) → exceeds q (at-passed q) ≡ b → Writing s m space₀ from (at + 44) (index + 1) space′ to′
+          go true x = writing-refused good 9 (exceeds-refused q (at-passed q) x)
+          go false x = writing-more (scoreOf q (at-passed q)) (exceeds-not q (at-passed q) x) space′ to′ (subst (λ (u : Estimates). Puts space to (playLine index u) space′ to′) z puts)
 
   -- at the end of the file all plays have their line
   pub writing-done : length s ≤ at → Puts space₀ from (playsText (scoresOf (fileOf s))) space to

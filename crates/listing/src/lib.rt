@@ -1,14 +1,14 @@
 // The text of the listing program, written into a lent space: which lines a file gets, and what stands in them.
+use estimates::calculator::calculate;
 use lines::put_map_line;
 use lines::put_play_line;
 use lines::put_refused_line;
 use map_reader::map::Map;
+use marks::attributes_from;
 use marks::mark_before;
 use marks::marks_of;
-use marks::score_from;
 use play_reader::PlayRead;
 use play_reader::play_at;
-use play_score::Scored;
 use play_state::Play;
 use rules::refusal;
 use scoring::plays::Plays;
@@ -30,7 +30,8 @@ pub enum Listed {
     NoRoom,
 }
 
-// The lines of a file's plays from a place of the space on. They are all good, so that no play ends the lines early. Marks are made only for plays.
+// The lines of a file's plays from a place of the space on. They are all good, so that no play ends the lines early. Marks are made only for plays; a
+// line has no bonus, so that no spinner is walked for it.
 fn put_plays(s: &[u8], map: Map, space: &mut [u8], from: usize) -> usize
     requires { ⌜ GoodFile (now s) map ⌝ }
     requires { ⌜ from ≤ length (now space) ⌝ }
@@ -49,11 +50,9 @@ fn put_plays(s: &[u8], map: Map, space: &mut [u8], from: usize) -> usize
             return to;
         };
         let i = mark_before(map.objects, play);
-        let Scored::Score(score) = score_from(s, map, marks.states[i], play) else {
-            return to;
-        };
-        let estimates = score.estimates;
-        to = put_play_line(space, to, index, estimates);
+        let a = attributes_from(s, map, marks.states[i], play);
+        let difficulty = a.difficulty;
+        to = put_play_line(space, to, index, calculate(play, difficulty));
         index += 1;
         at += Play::SIZE;
     }

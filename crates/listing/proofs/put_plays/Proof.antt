@@ -7,7 +7,7 @@ use lib.ListN.{length}
 use Rattle.rules.proofs.Laws.{so}
 use Rattle.play_reader.proofs.Playing.{read-inside}
 use Rattle.marks.proofs.Marked.{mark-there}
-use Rattle.listing.proofs.Writing.{Writing, writing-start, from-mark, writing-cut, writing-refused, writing-more, writing-done, writing-length}
+use Rattle.listing.proofs.Writing.{Writing, writing-start, from-mark, writing-cut, writing-line, writing-done, writing-length}
 use Rattle.listing.proofs.put_plays.Statement.{statement}
 use Rattle.listing.proofs.put_plays.Tie as tie
 
@@ -55,74 +55,63 @@ returns-2 c =
 mark-before-requires : tie.Need-mark-before-requires Inv-loop μ-loop
 mark-before-requires c κs = search needs
 
-mul-score-from : tie.Need-mul-score-from Inv-loop μ-loop
-mul-score-from c = search needs
+mul-attributes-from : tie.Need-mul-attributes-from Inv-loop μ-loop
+mul-attributes-from c = search needs
 
-element-copy-out-score-from : tie.Need-element-copy-out-score-from Inv-loop μ-loop
-element-copy-out-score-from c = search needs
+element-copy-out-attributes-from : tie.Need-element-copy-out-attributes-from Inv-loop μ-loop
+element-copy-out-attributes-from c = search needs
 
-score-from-requires : tie.Need-score-from-requires Inv-loop μ-loop
-score-from-requires c κs =
+attributes-from-requires : tie.Need-attributes-from-requires Inv-loop μ-loop
+attributes-from-requires c κs =
     let marked = c .before .before .before .before .before .before .before .before in
     let k = c .before .before .before .before .before .before .before .before .before .before .before .before .before .pre .0 in
     (record { p = k .p; is = k .map }, mark-there (marked .marks-of .ensures) (c .before .before .before .play .given .0 .0) _ _ (c .before .mark-before .ensures .0))
 
-enum-known-score : tie.Need-enum-known-score Inv-loop μ-loop
-enum-known-score c = search needs
-
-enum-told-2 : tie.Need-enum-told-2 Inv-loop μ-loop
-enum-told-2 c = search needs
-
-same-length-2 : tie.Need-same-length-2 Inv-loop μ-loop
-same-length-2 c = writing-length (c .before .before .before .before .before .before .before .before .before .before .loop .inv)
-
-returns-3 : tie.Need-returns-3 Inv-loop μ-loop
-returns-3 c =
-    let scored = c .before .before in
-    let q = c .before .before .before .before .before .before .play .given in
-    let played = c .before .before .before .before .before .before .before .before in
-    let top = c .before .before .before .before .before .before .before .before .before .before in
-    let marked = c .before .before .before .before .before .before .before .before .before .before .before in
-    let start = c .before .before .before .before .before .before .before .before .before .before .before .before .before .before .before .before in
-    writing-refused (top .loop .inv) (played .before .loop-test .taken) _ (so (q .1) (played .play-at .ensures)) (start .pre .0) _ (from-mark (top .loop .inv) (marked .marks-of .ensures) (q .0 .0) _ _ (scored .before .before .mark-before .ensures .0) _ (so (c .enum-told2 .given .1) (scored .score-from .ensures)))
+calculate-requires : tie.Need-calculate-requires Inv-loop μ-loop
+calculate-requires c κs = search needs
 
 put-play-line-requires : tie.Need-put-play-line-requires Inv-loop μ-loop
 put-play-line-requires c κs = search needs
 
 add-index : tie.Need-add-index Inv-loop μ-loop
 add-index c =
-    let start = c .before .before .before .before .before .before .before .before .before .before .before .before .before .before .before .before .before .before .before .before .before .before in
-    let few = c .before .before .before .before .before .before .before .before .before .before .before .before .before .before .before .before .loop .inv .few in
-    let h = c .before .before .before .before .before .before .before .before .before .before .before .before .before .before .before .loop-test .taken in
+    let top = c .before .before .before .before .before .before .before .before .before .before .before .before .before .before in
+    let start = c .before .before .before .before .before .before .before .before .before .before .before .before .before .before .before .before .before .before .before .before in
+    let few = top .loop .inv .few in
+    let h = c .before .before .before .before .before .before .before .before .before .before .before .before .before .loop-test .taken in
     let room : length (now (start .args .s)) < 18446744073709551616 = start .good .0 .0 in
     omega (arith, few, h, room)
 
 add-at : tie.Need-add-at Inv-loop μ-loop
 add-at c =
-    let played = c .before .before .before .before .before .before .before .before .before .before .before .before .before .before in
-    let top = c .before .before .before .before .before .before .before .before .before .before .before .before .before .before .before .before in
-    let inside = read-inside (top .loop .inv .playing .to) (played .before .loop-test .taken) _ (so (c .before .before .before .before .before .before .before .before .before .before .before .before .play .given .1) (played .play-at .ensures)) in
-    search needs
+    let played = c .before .before .before .before .before .before .before .before .before .before .before .before in
+    let top = c .before .before .before .before .before .before .before .before .before .before .before .before .before .before in
+    let inside = read-inside (top .loop .inv .playing .to) (played .before .loop-test .taken) _ (so (c .before .before .before .before .before .before .before .before .before .before .play .given .1) (played .play-at .ensures)) in
+    let start = c .before .before .before .before .before .before .before .before .before .before .before .before .before .before .before .before .before .before .before .before in
+    let room : length (now (start .args .s)) < 18446744073709551616 = start .good .0 .0 in
+    omega (arith, inside, room)
 
 loop-less : tie.Need-loop-less Inv-loop μ-loop
 loop-less c =
-    let h = c .before .before .before .before .before .before .before .before .before .before .before .before .before .before .before .loop-test .taken in
+    let h = c .before .before .before .before .before .before .before .before .before .before .before .before .before .loop-test .taken in
     omega (arith, h)
 
 loop-again : tie.Need-loop-again Inv-loop μ-loop
 loop-again c =
-    let scored = c .before .before .before .before .before .before .before .before in
-    let q = c .before .before .before .before .before .before .before .before .before .before .before .before .play .given in
-    let played = c .before .before .before .before .before .before .before .before .before .before .before .before .before .before in
-    let top = c .before .before .before .before .before .before .before .before .before .before .before .before .before .before .before .before in
-    let marked = c .before .before .before .before .before .before .before .before .before .before .before .before .before .before .before .before .before in
-    writing-more (top .loop .inv) (played .before .loop-test .taken) _ (so (q .1) (played .play-at .ensures)) _ (from-mark (top .loop .inv) (marked .marks-of .ensures) (q .0 .0) _ _ (scored .before .before .mark-before .ensures .0) _ (so (c .before .before .before .before .before .before .score .given .1) (scored .score-from .ensures))) _ _ (c .before .before .put-play-line .ensures)
+    let q = c .before .before .before .before .before .before .before .before .before .before .play .given in
+    let placed = c .before .before .before .before .before .before .before .before in
+    let played = c .before .before .before .before .before .before .before .before .before .before .before .before in
+    let top = c .before .before .before .before .before .before .before .before .before .before .before .before .before .before in
+    let marked = c .before .before .before .before .before .before .before .before .before .before .before .before .before .before .before in
+    let start = c .before .before .before .before .before .before .before .before .before .before .before .before .before .before .before .before .before .before .before .before in
+    let estimates = from-mark (top .loop .inv) (marked .marks-of .ensures) (q .0 .0) _ _ (placed .mark-before .ensures .0) _ (c .before .before .before .before .before .before .attributes-from .ensures) _ (c .before .before .before .calculate .ensures) in
+    writing-line (top .loop .inv) (played .before .loop-test .taken) _ (so (q .1) (played .play-at .ensures)) (start .pre .0) _ estimates _ _ (c .before .before .put-play-line .ensures)
 
-same-length-3 : tie.Need-same-length-3 Inv-loop μ-loop
-same-length-3 c = writing-length (c .before .loop .inv)
+same-length-2 : tie.Need-same-length-2 Inv-loop μ-loop
+same-length-2 c = writing-length (c .before .loop .inv)
 
-returns-4 : tie.Need-returns-4 Inv-loop μ-loop
-returns-4 c = writing-done (c .before .loop .inv) (c .loop-test .left)
+returns-3 : tie.Need-returns-3 Inv-loop μ-loop
+returns-3 c = writing-done (c .before .loop .inv) (c .loop-test .left)
 
 pub put-plays-spec : {M : Type 1} → statement M
 put-plays-spec =
@@ -139,17 +128,14 @@ put-plays-spec =
     same-length
     returns-2
     mark-before-requires
-    mul-score-from
-    element-copy-out-score-from
-    score-from-requires
-    enum-known-score
-    enum-told-2
-    same-length-2
-    returns-3
+    mul-attributes-from
+    element-copy-out-attributes-from
+    attributes-from-requires
+    calculate-requires
     put-play-line-requires
     add-index
     add-at
     loop-less
     loop-again
-    same-length-3
-    returns-4)
+    same-length-2
+    returns-3)

@@ -14,7 +14,6 @@ use Rattle.records.specs.Objects.{Object, bonus, kindBonus}
 use Rattle.records.specs.Records.{Content, header, break, object, play, FoundRecord}
 use Rattle.map_file.specs.Order.{recordOf}
 use Rattle.map_file.specs.File.{File, accepted, refusedAt, countsOf, with-record, ended, fileFrom, nothingRead, fileOf}
-use Rattle.map_file.specs.View.{behind}
 use Rattle.rules.proofs.All.{that, all-out}
 use Rattle.map_file.proofs.Local.{record-in}
 use Rattle.map_file.proofs.Room.{placeOf, record-ordered}

@@ -6,14 +6,9 @@ use native.Mathlib.Omega.{arith}
 use lib.ListN.{length, take, drop, length-drop}
 use lib.Seq.{take-all}
 use Rattle.rules.specs.Refusals.{good, refused}
-use Rattle.records.specs.Records.{FoundRecord, contentView, recordRead}
-use Rattle.map_file.specs.View.{Fits, stepOf, settingsAfter, countedIn}
-use Rattle.records.specs.declared.beatmap.Settings.{Settings}
+use Rattle.records.specs.Records.{FoundRecord, recordRead}
 use Rattle.records.specs.declared.record.Record.{Record}
-use Rattle.records.specs.declared.record.Read.the-variants.{Good, Refused}
-use Rattle.map_file.specs.declared.file.Counts.{Counts}
-use Rattle.map_file.specs.declared.file.Reader.{Reader}
-use Rattle.map_file.specs.declared.file.Step.the-variants as step
+use Rattle.records.specs.declared.record.Read.the-variants.{Good}
 use Rattle.rules.proofs.All.{All, none, that}
 use Rattle.map_file.proofs.Sizes.{Sized}
 use Rattle.rules.proofs.Laws.{never}
@@ -29,22 +24,3 @@ module _ (x : FoundRecord) (r : Record) (n : ℕ) (e : Good r n ≡ recordRead x
       go : (x : FoundRecord) → All (Sized l) x → Good r n ≡ recordRead x → (2 ≤ n) × (n ≤ length l)
       go (refused m) none e = never (cc)
       go (good f) (that p) e = let k : n ≡ f .1 = cc in rw k (p .0, p .1)
-
-  pub read-fits : (c : Counts) → All (λ f. Fits c (contentView (f .0))) x → Fits c r
-  read-fits c a = go x a e
-    where
-      go : (x : FoundRecord) → All (λ f. Fits c (contentView (f .0))) x → Good r n ≡ recordRead x → Fits c r
-      go (refused m) none e = never (cc)
-      go (good f) (that p) e = let k : r ≡ contentView (f .0) = cc in rw k p
-
-  pub read-next : (reader : Reader) (s : Settings) (c : Counts) → s ≡ settingsAfter (reader .settings) r → c ≡ countedIn (reader .counts) r
-      → step.Next r (record { at = reader .at + n; settings = s; counts = c }) ≡ stepOf reader x
-  read-next reader s c p q = go x e
-    where
-      go : (x : FoundRecord) → Good r n ≡ recordRead x → step.Next r (record { at = reader .at + n; settings = s; counts = c }) ≡ stepOf reader x
-      go (refused m) e = never (cc)
-      go (good f) e = let k : r ≡ contentView (f .0) = cc in let h : n ≡ f .1 = cc in simp (p, q, k, h)
-
-pub read-refused : (x : FoundRecord) (n : ℕ) (reader : Reader) → Refused n ≡ recordRead x → step.Refused n (reader .at) ≡ stepOf reader x
-read-refused (refused m) n reader e = let k : n ≡ m = cc in rw k
-read-refused (good f) n reader e = never (cc)

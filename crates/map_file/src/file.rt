@@ -12,11 +12,9 @@ use records::record::Read;
 use records::record::Record;
 use rules::refusal;
 ghost use mathlib.Core.Path.{_≡_};
-ghost use Prim.Native.Nat.{_+_, _≤_, _<_};
-ghost use lib.ListN.{length, drop};
 ghost use Rattle.records.specs.Records.{recordRead};
 ghost use Rattle.map_file.specs.Order.{rankOf, inOrder, isFull, overBonus, bodyOf, recordOf};
-ghost use Rattle.map_file.specs.View.{bonusIn, countedIn, Fits, settingsAfter, stepOf};
+ghost use Rattle.map_file.specs.View.{bonusIn};
 
 pub const MH: u64 = 0x484d;
 
@@ -48,11 +46,6 @@ pub struct Reader {
     pub at: usize,
     pub settings: Settings,
     pub counts: Counts,
-}
-
-pub enum Step {
-    Next(Record, Reader),
-    Refused { number: u8, offset: usize },
 }
 
 // The place of a mark.
@@ -144,8 +137,8 @@ fn is_over_bonus(c: Counts, bonus: u64) -> bool
     HitObject::MAX_BONUS - bonus < c.bonus
 }
 
-// The record that the rest of a file starts with, by all checks of one record in their order.
-fn read_next(r: &[u8], c: Counts) -> Read
+// The record that the rest of a file starts with, by all checks of one record in their order. Its bonus is worked out once, for the last of them.
+pub fn read_record(r: &[u8], c: Counts) -> Read
     ensures { λ x. ⌜ x ≡ recordRead (recordOf (now (r .entry)) c) ⌝ }
 {
     if r.len() < 2 {
@@ -167,70 +160,5 @@ fn read_next(r: &[u8], c: Counts) -> Read
             }
             Read::Good(item, size)
         }
-    }
-}
-
-// The counts with one more record.
-fn count(c: Counts, item: Record) -> Counts
-    requires { ⌜ Fits c item ⌝ }
-    ensures { λ r. ⌜ r ≡ countedIn c item ⌝ }
-{
-    match item {
-        Record::Header(_) => Counts {
-            last: HEADER_RANK,
-            ..c
-        },
-        Record::Break(_) => Counts {
-            last: BREAK_RANK,
-            breaks: c.breaks + 1,
-            ..c
-        },
-        Record::Object(_) => Counts {
-            last: OBJECT_RANK,
-            breaks: c.breaks,
-            objects: c.objects + 1,
-            bonus: c.bonus + bonus_of(item),
-        },
-        Record::Play(_) => Counts {
-            last: PLAY_RANK,
-            ..c
-        },
-    }
-}
-
-// The settings after a record: the header's own.
-fn settings_after(settings: Settings, item: Record) -> Settings
-    ensures { λ r. ⌜ r ≡ settingsAfter settings item ⌝ }
-{
-    match item {
-        Record::Header(own) => own,
-        Record::Break(_) => settings,
-        Record::Object(_) => settings,
-        Record::Play(_) => settings,
-    }
-}
-
-// One record of a file, and where the reader stands behind it.
-pub fn read_record(s: &[u8], reader: Reader) -> Step
-    ensures { λ x. ⌜ x ≡ stepOf reader (recordOf (drop (reader .at) (now (s .entry))) (reader .counts)) ⌝ }
-{
-    let at = reader.at;
-    let counts = reader.counts;
-    if s.len() <= at {
-        return Step::Refused {
-            number: refusal::CUT,
-            offset: at,
-        };
-    }
-    match read_next(&s[at..], counts) {
-        Read::Refused(number) => Step::Refused { number, offset: at },
-        Read::Good(item, size) => Step::Next(
-            item,
-            Reader {
-                at: at + size,
-                settings: settings_after(reader.settings, item),
-                counts: count(counts, item),
-            },
-        ),
     }
 }

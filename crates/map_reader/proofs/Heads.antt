@@ -17,9 +17,7 @@ use Rattle.records.specs.declared.record.Record.{Record}
 use Rattle.records.specs.declared.record.Record.the-variants as record·case
 use Rattle.records.specs.declared.record.Read.the-variants.{Good, Refused}
 use Rattle.map_file.specs.Order.{MH, BR, PL, noRank, headerRank, breakRank, objectRank, playRank, inOrder, overBonus, contentBonus, bodyOf, recordOf}
-use Rattle.map_file.specs.View.{stepOf, freshOf}
-use Rattle.map_file.specs.declared.file.Reader.{Reader}
-use Rattle.map_file.specs.declared.file.Step.the-variants as step
+use Rattle.map_file.specs.View.{freshOf}
 use Rattle.map_file.proofs.Room.{placeOf}
 use Rattle.map_reader.specs.Map.{objectsFrom, headWith, headOf, headIn, isGood, isBreak, breaksAfter, stopOf}
 use Rattle.map_reader.specs.declared.map.Head.{Head}
@@ -27,13 +25,13 @@ use Rattle.map_reader.specs.declared.map.Head.the-variants as head
 use Rattle.map_reader.specs.declared.map.Stop.the-variants as stop
 
 -- ---- the record behind a map
-pub stop-refused : (x : FoundRecord) (reader : Reader) (n at : ℕ) → step.Refused n at ≡ stepOf reader x → stop.Refused n ≡ stopOf x
-stop-refused (refused m) reader n at e = let k : n ≡ m = cc in rw k
-stop-refused (good f) reader n at e = never (cc)
+pub stop-refused : (x : FoundRecord) (n : ℕ) → Refused n ≡ recordRead x → stop.Refused n ≡ stopOf x
+stop-refused (refused m) n e = let k : n ≡ m = cc in rw k
+stop-refused (good f) n e = never (cc)
 
-pub stop-next : (x : FoundRecord) (reader : Reader) (item : Record) (next : Reader) → step.Next item next ≡ stepOf reader x → stop.Ends ≡ stopOf x
-stop-next (refused m) reader item next e = never (cc)
-stop-next (good f) reader item next e = refl
+pub stop-next : (x : FoundRecord) (item : Record) (size : ℕ) → Good item size ≡ recordRead x → stop.Ends ≡ stopOf x
+stop-next (refused m) item size e = never (cc)
+stop-next (good f) item size e = refl
 
 -- ---- a break
 pub good-not : (x : FoundRecord) (n : ℕ) → Refused n ≡ recordRead x → isGood x ≡ false

@@ -11,7 +11,6 @@ use map_file::file::MH;
 use map_file::file::OBJECT_RANK;
 use map_file::file::PL;
 use map_file::file::Reader;
-use map_file::file::Step;
 use map_file::file::read_record;
 use numbers::bits::f64_from_bits;
 use numbers::naturals::least;
@@ -167,9 +166,9 @@ fn stop_at(s: &[u8], reader: Reader) -> Stop
     if word_at(&s[at..], 0, 2) == PL {
         return Stop::Ends;
     }
-    match read_record(s, reader) {
-        Step::Refused { number, offset: _ } => Stop::Refused(number),
-        Step::Next(_, _) => Stop::Ends,
+    match read_record(&s[at..], reader.counts) {
+        Read::Refused(number) => Stop::Refused(number),
+        Read::Good(_, _) => Stop::Ends,
     }
 }
 

@@ -1,36 +1,64 @@
--- The record is read from the rest of the input; what is read ends within it and leaves the counts within their limits.
-use mathlib.Core.Path.{ap, _∙_}
-use mathlib.Core.List.{List}
-use Prim.Native.Nat.{ℕ}
-use native.Mathlib.Omega.{arith}
-use lib.ListN.{drop, length-drop, drop-of-length-le}
+-- Each return is what the definition computes from the tests on the way; the last check is a law on what the code keeps of the record.
 use denote.Ref.{now}
+use mathlib.Core.Path.{sym}
+use borrow.Author.Tests.{lt-ltb, le-ltb, not-true, not-false}
 use Rattle.rules.specs.Refusals.{_>>=_, _>>_, refuse_when_}
-use Rattle.records.specs.Records.{recordRead}
-use Rattle.map_file.specs.Order.{recordOf}
+use Rattle.map_file.specs.Order.{recordOf, bodyOf}
 use Rattle.rules.proofs.Laws.{so}
-use Rattle.map_file.proofs.Sizes.{record-sized}
-use Rattle.map_file.proofs.Room.{record-fits}
-use Rattle.map_file.proofs.Steps.{rest-is, read-size, read-fits, read-next, read-refused}
+use Rattle.map_file.proofs.Bodies.{held-refused, held-over, held-good}
 use borrow.Author.Needs.{needs}
 use Rattle.map_file.proofs.file.read_record.Statement.{statement}
 use Rattle.map_file.proofs.file.read_record.Tie as tie
 
 returns : tie.Need-returns
 unfolding recordOf _>>=_ _>>_ refuse_when_
-returns c = rw (drop-of-length-le (now (c .before .before .before .args .s)) (c .if1 .taken))
+returns c = simp (lt-ltb _ _ (c .if1 .taken))
 
-sub-read-next : tie.Need-sub-read-next
-sub-read-next c = search needs
+word-at-requires : tie.Need-word-at-requires
+word-at-requires c κs = search needs
 
-part-read-next-start : tie.Need-part-read-next-start
-part-read-next-start c = search needs
+rank-of-requires : tie.Need-rank-of-requires
+rank-of-requires c κs = search needs
 
-part-read-next-end : tie.Need-part-read-next-end
-part-read-next-end c = search needs
+in-order-requires : tie.Need-in-order-requires
+in-order-requires c κs = search needs
 
-read-next-requires : tie.Need-read-next-requires
-read-next-requires c κs = search needs
+returns-2 : tie.Need-returns-2
+unfolding recordOf _>>=_ _>>_ refuse_when_
+returns-2 c =
+    let at1 = c .before in
+    let at2 = at1 .before in
+    let at3 = at2 .before in
+    let at4 = at3 .before in
+    simp (
+      le-ltb _ _ (at4 .if1 .left),
+      sym (at3 .word-at .ensures .0),
+      sym (at2 .rank-of .ensures),
+      so (at1 .in-order .ensures) (not-true _ (c .if2 .taken)),
+    )
+
+is-full-requires : tie.Need-is-full-requires
+is-full-requires c κs = search needs
+
+returns-3 : tie.Need-returns-3
+unfolding recordOf _>>=_ _>>_ refuse_when_
+returns-3 c =
+    let at1 = c .before in
+    let at2 = at1 .before in
+    let at3 = at2 .before in
+    let at4 = at3 .before in
+    let at5 = at4 .before in
+    let at6 = at5 .before in
+    simp (
+      le-ltb _ _ (at6 .if1 .left),
+      sym (at5 .word-at .ensures .0),
+      sym (at4 .rank-of .ensures),
+      so (at3 .in-order .ensures) (not-false _ (at2 .if2 .left)),
+      so (at1 .is-full .ensures) (c .if3 .taken),
+    )
+
+read-body-requires : tie.Need-read-body-requires
+read-body-requires c κs = search needs
 
 enum-known-number : tie.Need-enum-known-number
 enum-known-number c = search needs
@@ -38,52 +66,98 @@ enum-known-number c = search needs
 enum-known-item : tie.Need-enum-known-item
 enum-known-item c = search needs
 
-add-t15 : tie.Need-add-t15
-add-t15 c =
+bonus-of-requires : tie.Need-bonus-of-requires
+bonus-of-requires c κs = search needs
+
+is-over-bonus-requires : tie.Need-is-over-bonus-requires
+is-over-bonus-requires c κs = search needs
+
+returns-4 : tie.Need-returns-4
+unfolding recordOf _>>=_ _>>_ refuse_when_
+returns-4 c =
     let at1 = c .before in
-    let at2 = at1 .before .before in
-    let at3 = at2 .before .before .before .before .before in
-    let h = read-size (recordOf (drop (at3 .args .reader .at) (now (at3 .args .s))) (at3 .args .reader .counts)) _ _ (so (at1 .item .given .1) (at2 .read-next .ensures ∙ ap (λ (l : List ℕ). recordRead (recordOf l (at3 .args .reader .counts))) (rest-is (now (at3 .args .s)) (at3 .args .reader .at)))) (drop (at3 .args .reader .at) (now (at3 .args .s))) (record-sized _ _) in
-    omega (arith, h .1, length-drop (at3 .args .reader .at) (now (at3 .args .s)))
-
-settings-after-requires : tie.Need-settings-after-requires
-settings-after-requires c κs = search needs
-
-count-requires : tie.Need-count-requires
-count-requires c κs =
-    let at1 = c .before .before in
-    let at2 = at1 .before .before in
-    let at3 = at2 .before .before .before .before .before in
-    read-fits (recordOf (drop (at3 .args .reader .at) (now (at3 .args .s))) (at3 .args .reader .counts)) _ _ (so (at1 .item .given .1) (at2 .read-next .ensures ∙ ap (λ (l : List ℕ). recordRead (recordOf l (at3 .args .reader .counts))) (rest-is (now (at3 .args .s)) (at3 .args .reader .at)))) (at3 .args .reader .counts) (record-fits _ _)
-
-returns-2 : tie.Need-returns-2
-returns-2 c =
-    let at1 = c .before in
-    let at2 = at1 .before .before in
-    let at3 = at2 .before .before .before .before .before in
-    read-refused (recordOf (drop (at3 .args .reader .at) (now (at3 .args .s))) (at3 .args .reader .counts)) _ (at3 .args .reader) (so (at1 .number .given .1) (at2 .read-next .ensures ∙ ap (λ (l : List ℕ). recordRead (recordOf l (at3 .args .reader .counts))) (rest-is (now (at3 .args .s)) (at3 .args .reader .at))))
-
-returns-3 : tie.Need-returns-3
-returns-3 c =
-    let at1 = c .before in
-    let at2 = at1 .before .before in
+    let at2 = at1 .before in
     let at3 = at2 .before .before in
-    let at4 = at3 .before .before .before .before .before in
-    read-next (recordOf (drop (at4 .args .reader .at) (now (at4 .args .s))) (at4 .args .reader .counts)) _ _ (so (at2 .item .given .1) (at3 .read-next .ensures ∙ ap (λ (l : List ℕ). recordRead (recordOf l (at4 .args .reader .counts))) (rest-is (now (at4 .args .s)) (at4 .args .reader .at)))) (at4 .args .reader) _ _ (at1 .settings-after .ensures) (c .count .ensures)
+    let at4 = at3 .before .before in
+    let at5 = at4 .before in
+    let at6 = at5 .before in
+    let at7 = at6 .before in
+    let at8 = at7 .before in
+    let at9 = at8 .before in
+    let at10 = at9 .before in
+    let at11 = at10 .before in
+    let at12 = at11 .before .before in
+    simp (
+      le-ltb _ _ (at11 .if1 .left),
+      sym (at10 .word-at .ensures .0),
+      sym (at9 .rank-of .ensures),
+      so (at8 .in-order .ensures) (not-false _ (at7 .if2 .left)),
+      so (at6 .is-full .ensures) (at5 .if3 .left),
+    )
+    (held-over (at12 .args .c) (bodyOf (now (at12 .args .r)) (at10 .word-at .result)) _ _ _ (so (at3 .item .given .1) (at4 .read-body .ensures)) (at2 .bonus-of .ensures) (so (at1 .is-over-bonus .ensures) (c .if4 .taken)))
+
+returns-5 : tie.Need-returns-5
+unfolding recordOf _>>=_ _>>_ refuse_when_
+returns-5 c =
+    let at1 = c .before in
+    let at2 = at1 .before .before in
+    let at3 = at2 .before in
+    let at4 = at3 .before in
+    let at5 = at4 .before in
+    let at6 = at5 .before in
+    let at7 = at6 .before in
+    let at8 = at7 .before in
+    let at9 = at8 .before in
+    let at10 = at9 .before .before in
+    simp (
+      le-ltb _ _ (at9 .if1 .left),
+      sym (at8 .word-at .ensures .0),
+      sym (at7 .rank-of .ensures),
+      so (at6 .in-order .ensures) (not-false _ (at5 .if2 .left)),
+      so (at4 .is-full .ensures) (at3 .if3 .left),
+    )
+    (held-refused (at10 .args .c) (bodyOf (now (at10 .args .r)) (at8 .word-at .result)) _ (so (at1 .number .given .1) (at2 .read-body .ensures)))
+
+returns-6 : tie.Need-returns-6
+unfolding recordOf _>>=_ _>>_ refuse_when_
+returns-6 c =
+    let at1 = c .before in
+    let at2 = at1 .before in
+    let at3 = at2 .before .before in
+    let at4 = at3 .before .before in
+    let at5 = at4 .before in
+    let at6 = at5 .before in
+    let at7 = at6 .before in
+    let at8 = at7 .before in
+    let at9 = at8 .before in
+    let at10 = at9 .before in
+    let at11 = at10 .before in
+    let at12 = at11 .before .before in
+    simp (
+      le-ltb _ _ (at11 .if1 .left),
+      sym (at10 .word-at .ensures .0),
+      sym (at9 .rank-of .ensures),
+      so (at8 .in-order .ensures) (not-false _ (at7 .if2 .left)),
+      so (at6 .is-full .ensures) (at5 .if3 .left),
+    )
+    (held-good (at12 .args .c) (bodyOf (now (at12 .args .r)) (at10 .word-at .result)) _ _ _ (so (at3 .item .given .1) (at4 .read-body .ensures)) (at2 .bonus-of .ensures) (so (at1 .is-over-bonus .ensures) (c .if4 .left)))
 
 pub read-record-spec : {M : Type 1} → statement M
 read-record-spec =
     tie.close
     (tie.spec
     returns
-    sub-read-next
-    part-read-next-start
-    part-read-next-end
-    read-next-requires
+    word-at-requires
+    rank-of-requires
+    in-order-requires
+    returns-2
+    is-full-requires
+    returns-3
+    read-body-requires
     enum-known-number
     enum-known-item
-    add-t15
-    settings-after-requires
-    count-requires
-    returns-2
-    returns-3)
+    bonus-of-requires
+    is-over-bonus-requires
+    returns-4
+    returns-5
+    returns-6)

@@ -7,6 +7,7 @@ use lib.ListN.{drop}
 use borrow.Author.Tests.{le-leb, lt-leb, eq-eqb, ne-eqb}
 use Rattle.numbers.specs.Words.{wordAt}
 use Rattle.rules.proofs.Laws.{so}
+use Rattle.records.specs.Records.{recordRead}
 use Rattle.map_file.specs.Order.{recordOf}
 use Rattle.map_file.proofs.Steps.{rest-is}
 use Rattle.map_reader.specs.Map.{stopIn}
@@ -40,6 +41,15 @@ returns-2 c =
     let mark = at1 .word-at .ensures .0 ∙ ap (λ (l : List ℕ). wordAt l 0 2) (rest-is (now (a .s)) (a .reader .at)) in
     simp (lt-leb _ _ (at2 .if1 .left), eq-eqb _ _ (sym mark ∙ c .if2 .taken))
 
+sub-read-record : tie.Need-sub-read-record
+sub-read-record c = search needs
+
+part-read-record-start : tie.Need-part-read-record-start
+part-read-record-start c = search needs
+
+part-read-record-end : tie.Need-part-read-record-end
+part-read-record-end c = search needs
+
 read-record-requires : tie.Need-read-record-requires
 read-record-requires c κs = search needs
 
@@ -52,27 +62,30 @@ enum-told c = search needs
 returns-3 : tie.Need-returns-3
 unfolding stopIn
 returns-3 c =
-    let at1 = c .before in
-    let at2 = at1 .before .before in
-    let at3 = at2 .before in
-    let at4 = at3 .before in
-    let at5 = at4 .before .before in
-    let a = at5 .before .before .args in
-    let mark = at4 .word-at .ensures .0 ∙ ap (λ (l : List ℕ). wordAt l 0 2) (rest-is (now (a .s)) (a .reader .at)) in
-    simp (lt-leb _ _ (at5 .if1 .left), ne-eqb _ _ (λ e. at3 .if2 .left (mark ∙ e)))
-    (stop-refused (recordOf (drop (a .reader .at) (now (a .s))) (a .reader .counts)) (a .reader) _ _ (so (at1 .number .given .1) (at2 .read-record .ensures)))
+    let read = c .before .before .before in
+    let tested = read .before .before in
+    let marked = tested .before in
+    let long = marked .before .before in
+    let a = long .before .before .args in
+    let s = now (a .s) in
+    let rest = rest-is s (a .reader .at) in
+    let mark = marked .word-at .ensures .0 ∙ ap (λ (l : List ℕ). wordAt l 0 2) rest in
+    simp (lt-leb _ _ (long .if1 .left), ne-eqb _ _ (λ e. tested .if2 .left (mark ∙ e)))
+    (stop-refused (recordOf (drop (a .reader .at) s) (a .reader .counts)) _ (so (c .before .number .given .1) (read .read-record .ensures) ∙ ap (λ (l : List ℕ). recordRead (recordOf l (a .reader .counts))) rest))
 
 returns-4 : tie.Need-returns-4
 unfolding stopIn
 returns-4 c =
-    let at1 = c .before .before in
-    let at2 = at1 .before in
-    let at3 = at2 .before in
-    let at4 = at3 .before .before in
-    let a = at4 .before .before .args in
-    let mark = at3 .word-at .ensures .0 ∙ ap (λ (l : List ℕ). wordAt l 0 2) (rest-is (now (a .s)) (a .reader .at)) in
-    simp (lt-leb _ _ (at4 .if1 .left), ne-eqb _ _ (λ e. at2 .if2 .left (mark ∙ e)))
-    (stop-next (recordOf (drop (a .reader .at) (now (a .s))) (a .reader .counts)) (a .reader) _ _ (so (c .enum-told .given .1) (at1 .read-record .ensures)))
+    let read = c .before .before in
+    let tested = read .before .before in
+    let marked = tested .before in
+    let long = marked .before .before in
+    let a = long .before .before .args in
+    let s = now (a .s) in
+    let rest = rest-is s (a .reader .at) in
+    let mark = marked .word-at .ensures .0 ∙ ap (λ (l : List ℕ). wordAt l 0 2) rest in
+    simp (lt-leb _ _ (long .if1 .left), ne-eqb _ _ (λ e. tested .if2 .left (mark ∙ e)))
+    (stop-next (recordOf (drop (a .reader .at) s) (a .reader .counts)) _ _ (so (c .enum-told .given .1) (read .read-record .ensures) ∙ ap (λ (l : List ℕ). recordRead (recordOf l (a .reader .counts))) rest))
 
 pub stop-at-spec : {M : Type 1} → statement M
 stop-at-spec =
@@ -84,6 +97,9 @@ stop-at-spec =
     part-word-at-end
     word-at-requires
     returns-2
+    sub-read-record
+    part-read-record-start
+    part-read-record-end
     read-record-requires
     enum-known-number
     enum-told

@@ -4,11 +4,13 @@ use mathlib.Core.Bool.{true}
 use mathlib.Core.List.{List, [], _++_}
 use mathlib.Core.Logic.{_≢_}
 use mathlib.Core.Path.{_≡_, sym, subst}
-use Prim.Native.Nat.{ℕ, _-_, _*_, _/_, _≤_, _<_}
+use Prim.Native.Nat.{ℕ, _+_, _-_, _*_, _/_, _≤_, _<_}
 use lib.Ieee.{Float, toUnsigned}
 use lib.ListN.{length, take, drop}
 use Rattle.numbers.specs.Floats.{whole, _⊗_}
 use Rattle.numbers.proofs.words.Laws.{Bytes}
+use Rattle.spinner.specs.HalfSpins.{totalHalfSpins, requiredHalfSpins}
+use Rattle.spinner.proofs.Walks.{ByCounts, by-counts, SpunByCounts, spun-by-counts}
 use Rattle.rules.specs.Limits.{maxCombo}
 use Rattle.rules.specs.Refusals.{good, BOARD}
 use Rattle.play_state.specs.declared.Play.{Play}
@@ -151,6 +153,14 @@ every-sum-fits-its-type = sums-fit
 pub every-drain-fits-its-type : (m : Map) (p : ℕ) → AcceptedMap m → 1 ≤ length (m .objects)
     → DrainFits m (startOf (m .objects) (lastPlace (length (m .objects)) p))
 every-drain-fits-its-type = drain-fits
+
+-- document 02, §4: "after each half spin both sums are those of 01's rule so far": so promises the step (`half_spin` of spinner/src); here the sums
+-- behind every half spin by the two counts, "and at the end, for each duration, those of the counts"
+pub every-half-spin-by-counts : (b t : ℕ) → ByCounts b t
+every-half-spin-by-counts = by-counts
+
+pub every-spinner-by-counts : (d : Float) → SpunByCounts d (requiredHalfSpins d + 3) (totalHalfSpins d)
+every-spinner-by-counts = spun-by-counts
 
 -- ---- Demand 3
 -- "For every list of edits and reads that document 01 admits, refused calls included, on a board and start table built from an accepted map": the

@@ -9,7 +9,7 @@ use native.Mathlib.Nat.{le-div-iff-mul-le}
 use native.Mathlib.Omega.{arith}
 use borrow.Author.Tests.{ne-eqb}
 use lib.Dec.{eqb, lit<}
-use lib.Ieee.{Float, nan, neg, le, toUnsigned}
+use lib.Ieee.{Float, nan, neg, le, toUnsigned, ofInt, mul, div}
 use lib.IntN.{_-ℤ_}
 use lib.ListN.{length, take, drop, getD}
 use lib.Signed.{mag}
@@ -17,6 +17,8 @@ use lib.Pow.{pow-mono, pow-pos}
 use Rattle.numbers.specs.Floats.{whole, _⊗_}
 use Rattle.numbers.proofs.Wholes.{whole-cut}
 use Rattle.numbers.proofs.words.Laws.{Bytes}
+use Rattle.spinner.specs.HalfSpins.{totalHalfSpins, requiredHalfSpins}
+use Rattle.spinner.specs.Bonus.{sumsBefore, legacyOf, standardisedOf}
 use Rattle.rules.specs.Refusals.{Checked, good, refused, BOARD}
 use Rattle.play_state.specs.declared.Play.{Play}
 use Rattle.records.specs.Objects.{Object}
@@ -74,7 +76,7 @@ use Rattle.demands.proofs.Refusals.{BreaksNumbered, scored, numbered}
 use Rattle.demands.proofs.Files.{scoredPlays}
 use Rattle.demands.proofs.Boards.{Leads}
 use Rattle.demands.proofs.DrainFits.{DrainFits}
-use Rattle.demands.proofs.Demands.{every-listing-fits, refused-by-a-rule, refused-edit-by-a-rule, refused-read-by-a-rule, refused-play-breaks-by-a-rule, refused-read-breaks-by-a-rule, never-10, accepted-keeps-the-rules, keeping-the-rules-is-accepted, no-number-only-when-the-rules-are-kept, no-number-when-the-rules-are-kept, every-combo-product-is-exact, every-score-combo-product-is-exact, every-sum-fits-its-type, every-drain-fits-its-type, values-are-the-definition's, effective-misses-in-range, slider-breaks-in-range, every-list-of-calls, every-spinner-sum-is-exact, accepted-maps-are-within, accepted-map-gets-no-number, every-accepted-map-is-built, maps-within-are-accepted, left-by-every-list, changed-map-accepted, one-edit-leads, edit-touches-only, never-13-edit, never-13-read, never-13-read-breaks}
+use Rattle.demands.proofs.Demands.{every-listing-fits, refused-by-a-rule, refused-edit-by-a-rule, refused-read-by-a-rule, refused-play-breaks-by-a-rule, refused-read-breaks-by-a-rule, never-10, accepted-keeps-the-rules, keeping-the-rules-is-accepted, no-number-only-when-the-rules-are-kept, no-number-when-the-rules-are-kept, every-combo-product-is-exact, every-score-combo-product-is-exact, every-sum-fits-its-type, every-drain-fits-its-type, every-half-spin-by-counts, every-spinner-by-counts, values-are-the-definition's, effective-misses-in-range, slider-breaks-in-range, every-list-of-calls, every-spinner-sum-is-exact, accepted-maps-are-within, accepted-map-gets-no-number, every-accepted-map-is-built, maps-within-are-accepted, left-by-every-list, changed-map-accepted, one-edit-leads, edit-touches-only, never-13-edit, never-13-read, never-13-read-breaks}
 
 -- ---- Demand 1
 -- no listing is cut
@@ -254,6 +256,14 @@ drain-kept m p a some = (go (m .objects) (fit .without-breaks), fit .breaks 2)
         → mag (drainAt (m .breaks) os p) ≤ 2 ^ 31
     go [] h = omega arith
     go (o ∷ os) h = omega (arith, h, mag-quot (lengthOf (startOf (o ∷ os) 0) (startOf (o ∷ os) (lastPlace (length (o ∷ os)) p)) -ℤ breaksLength (startOf (o ∷ os) (lastPlace (length (o ∷ os)) p)) (m .breaks)))
+
+-- the points of an hour, and those behind its half spin 20,000, with none of its half spins gone through
+hour-points : (legacyOf (whole 3600000) ≡ 28401800) × (standardisedOf (whole 3600000) ≡ 1447100)
+unfolding totalHalfSpins requiredHalfSpins ofInt mul div toUnsigned
+hour-points = (every-spinner-by-counts (whole 3600000) .legacy, every-spinner-by-counts (whole 3600000) .standardised)
+
+within-the-hour : (sumsBefore 10803 20001 .legacy .0 ≡ 6057800) × (sumsBefore 10803 20001 .standardised .0 ≡ 329900)
+within-the-hour = (every-half-spin-by-counts 10803 20000 .legacy, every-half-spin-by-counts 10803 20000 .standardised)
 
 -- ---- Demand 3
 -- the file of an accepted map is scored as that map

@@ -8,7 +8,7 @@ use lib.Ieee.{Float}
 use lib.Dec.{T, ltb, eqb, ltb→lt, nltb→le, eqb→eq}
 use borrow.Author.Tests.{eqb-false, lt-ltb, le-ltb}
 use Rattle.spinner.specs.HalfSpins.{totalHalfSpins, requiredHalfSpins}
-use Rattle.spinner.specs.Bonus.{isLarge, isSmall, halfSpinPoints, legacyOf, standardisedOf, largeCount, smallCount}
+use Rattle.spinner.specs.Bonus.{isLarge, isSmall, halfSpinPoints, sumsBefore, legacyOf, standardisedOf, largeCount, smallCount}
 
 -- one more step, by what it adds
 add-large : (l s L S L′ S′ : ℕ) → L′ ≡ L + 1 → S′ ≡ S → l * L + s * S + l ≡ l * L′ + s * S′
@@ -137,15 +137,21 @@ pub small-not : (i : ℕ) → ((1 < i) × (eqb (i % 2) 0 ≡ false)) ⊎ (i ≤ 
 small-not i (inl x) = rw (lt-ltb 1 i (x .0), x .1)
 small-not i (inr h) = rw (le-ltb 1 i h)
 
--- ---- document 02, §4: "at the end, for each duration, those of the counts"
-module _ (d : Float) where
-  abbrev B : ℕ
-  B = requiredHalfSpins d + 3
+-- ---- document 02, §4: the sums behind a half spin t by the two counts, "and at the end, for each duration"
+pub record ByCounts (b t : ℕ) : Type 0 where
+  pub legacy : sumsBefore b (suc t) .legacy .0 ≡ 1100 * largeCount b t + 100 * smallCount b t
+  pub standardised : sumsBefore b (suc t) .standardised .0 ≡ 50 * largeCount b t + 10 * smallCount b t
 
-  pub legacy-by-counts : legacyOf d ≡ 1100 * largeCount B (totalHalfSpins d) + 100 * smallCount B (totalHalfSpins d)
-  unfolding legacyOf
-  legacy-by-counts = walked-is 1100 100 B (totalHalfSpins d)
+pub by-counts : (b t : ℕ) → ByCounts b t
+by-counts b t = record { legacy = walked-is 1100 100 b t; standardised = walked-is 50 10 b t }
 
-  pub standardised-by-counts : standardisedOf d ≡ 50 * largeCount B (totalHalfSpins d) + 10 * smallCount B (totalHalfSpins d)
-  unfolding standardisedOf
-  standardised-by-counts = walked-is 50 10 B (totalHalfSpins d)
+pub record SpunByCounts (d : Float) (b t : ℕ) : Type 0 where
+  pub legacy : legacyOf d ≡ 1100 * largeCount b t + 100 * smallCount b t
+  pub standardised : standardisedOf d ≡ 50 * largeCount b t + 10 * smallCount b t
+
+pub spun-by-counts : (d : Float) → SpunByCounts d (requiredHalfSpins d + 3) (totalHalfSpins d)
+unfolding legacyOf standardisedOf
+spun-by-counts d =
+    let b = requiredHalfSpins d + 3 in
+    let t = totalHalfSpins d in
+    record { legacy = walked-is 1100 100 b t; standardised = walked-is 50 10 b t }

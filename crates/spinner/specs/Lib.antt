@@ -1,2 +1,3 @@
 pub mod HalfSpins
 pub mod Bonus
+mod Examples

@@ -15,7 +15,7 @@ use Rattle.map_reader.specs.declared.map.Map.{Map}
 use Rattle.map_reader.specs.declared.objects.Objects.{Objects}
 use Rattle.marks.specs.Marks.{MarksOf, markBefore, attributesFrom}
 use Rattle.marks.specs.declared.Marks.{Marks}
-use Rattle.marks.proofs.Marked.{mark-there, from-is}
+use Rattle.marks.proofs.Marked.{marked-difficulty}
 use Rattle.play_state.specs.declared.Play.{Play}
 use Rattle.play_reader.specs.Plays.{playIn}
 use Rattle.play_reader.specs.declared.PlayRead.the-variants as read
@@ -86,7 +86,7 @@ module _ {s : List ℕ} {m : Map} {space₀ : List ℕ} {from at index : ℕ} {s
   -- from its mark a play has its estimates
   pub from-mark : {marks : Marks} → MarksOf s m marks → (q : Play) (i : ℕ) (d : Objects) → i ≡ markBefore (m .objects) q → (a : ScoreAttributes)
       → a ≡ attributesFrom false s m (getD (marks .states) i d) q → (r : Estimates) → r ≡ estimatesOf q (a .difficulty) → r ≡ estimatesOf q (at-passed q .difficulty)
-  from-mark w q i d e a h r z = z ∙ ap (λ (x : ScoreAttributes). estimatesOf q (x .difficulty)) (h ∙ from-is (k .playing .to .map) q _ (mark-there w q i d e))
+  from-mark w q i d e a h r z = z ∙ ap (estimatesOf q) (marked-difficulty (k .playing .to .map) q w i d e a h)
 
   module _ (h : at < length s) where
     pub writing-cut : {A : Type 0} → GoodFile s m → (n : ℕ) → read.Refused n ≡ playIn (drop at s) → A

@@ -282,11 +282,18 @@ module _ {s : List ℕ} {p : ℕ} {m : Map} (k : MapIs s p m) (q : Play) where
       ap (λ (a : ScoreAttributes). scoredOf (playScore q a)) (ap (λ (y : Objects). attributesIn s (withPassed m y)) (there-is k true q (firstOf m) e) ∙ attributes-there k true q (firstOf m) e)
 
   -- from a mark all but the bonus of its objects is known
-  pub from-is : (x : Objects) → StateBefore false s m q x → attributesFrom false s m x q ≡ withoutBonus at-passed
+  from-is : (x : Objects) → StateBefore false s m q x → attributesFrom false s m x q ≡ withoutBonus at-passed
   from-is x e =
       ap (λ (y : Objects). attributesIn s (withPassed m y)) (there-is k false q x e) ∙ bare-attributes s m (there k false q x e) ∙ ap withoutBonus (attributes-there k false q x e)
 
--- ---- what is known without a bonus
-pub exceeds-without : (q : Play) (a : ScoreAttributes) → exceeds q (withoutBonus a) ≡ exceeds q a
-unfolding exceeds
-exceeds-without q a = refl
+  -- so 9 and what the estimates take are as on the whole attributes
+  module _ {marks : Marks} (w : MarksOf s m marks) (i : ℕ) (d : Objects) (e : i ≡ markBefore (m .objects) q) (a : ScoreAttributes) (h : a ≡ attributesFrom false s m (getD (marks .states) i d) q) where
+    marked-is : a ≡ withoutBonus at-passed
+    marked-is = h ∙ from-is (getD (marks .states) i d) (mark-there w q i d e)
+
+    pub marked-exceeds : exceeds q a ≡ exceeds q at-passed
+    unfolding exceeds
+    marked-exceeds = ap (exceeds q) marked-is
+
+    pub marked-difficulty : a .difficulty ≡ at-passed .difficulty
+    marked-difficulty = ap (λ (x : ScoreAttributes). x .difficulty) marked-is

@@ -5,10 +5,8 @@ use native.Mathlib.Omega.{arith}
 use lib.ListN.{length}
 use Rattle.rules.proofs.Laws.{so}
 use Rattle.play_reader.proofs.Playing.{read-inside}
-use Rattle.play_score.specs.PlayRules.{exceeds}
 use Rattle.play_score.proofs.Exceeding.{exceeds-refused, exceeds-not}
-use Rattle.marks.proofs.Marked.{mark-there, anew-is, from-is, exceeds-without}
-use Rattle.simulator.specs.declared.attributes.ScoreAttributes.{ScoreAttributes}
+use Rattle.marks.proofs.Marked.{mark-there, anew-is, marked-exceeds}
 use Rattle.scoring.specs.View.{Playing, checkedOf}
 use Rattle.scoring.proofs.Playing.{playing-cut, playing-refused, playing-more, playing-end}
 use borrow.Author.Needs.{needs}
@@ -70,9 +68,8 @@ returns-2 c =
     let q = c .before .before .before .before .before .before .play in
     λ i k.
     let now-at = top .loop .inv i k in
-    let known = from-is (now-at .to .map) (q .given .0 .0) _ (mark-there (marked .marks-of .ensures) (q .given .0 .0) _ _ (placed .mark-before .ensures .0)) in
-    let a = tested .before .attributes-from .ensures ∙ known in
-    let nine = sym (exceeds-without (q .given .0 .0) _) ∙ ap (exceeds (q .given .0 .0)) (sym a) ∙ so (tested .exceeds-map .ensures) (c .if1 .taken) in
+    let same = marked-exceeds (now-at .to .map) (q .given .0 .0) (marked .marks-of .ensures) _ _ (placed .mark-before .ensures .0) _ (tested .before .attributes-from .ensures) in
+    let nine = sym same ∙ so (tested .exceeds-map .ensures) (c .if1 .taken) in
     sym (ap (checkedOf i) (playing-refused now-at (played .before .loop-test .taken) _ (so (q .given .1) (played .play-at .ensures)) _ (exceeds-refused (q .given .0 .0) _ nine)))
 
 after-play-requires : tie.Need-after-play-requires Inv-loop μ-loop
@@ -103,9 +100,8 @@ loop-again c =
     let q = c .before .before .before .before .before .before .before .play in
     λ i k.
     let now-at = top .loop .inv i k in
-    let known = from-is (now-at .to .map) (q .given .0 .0) _ (mark-there (marked .marks-of .ensures) (q .given .0 .0) _ _ (placed .mark-before .ensures .0)) in
-    let a = tested .before .attributes-from .ensures ∙ known in
-    let none = sym (exceeds-without (q .given .0 .0) _) ∙ ap (exceeds (q .given .0 .0)) (sym a) ∙ so (tested .exceeds-map .ensures) (c .before .if1 .left) in
+    let same = marked-exceeds (now-at .to .map) (q .given .0 .0) (marked .marks-of .ensures) _ _ (placed .mark-before .ensures .0) _ (tested .before .attributes-from .ensures) in
+    let none = sym same ∙ so (tested .exceeds-map .ensures) (c .before .if1 .left) in
     let r = exceeds-not (q .given .0 .0) _ none in
     playing-more now-at (played .before .loop-test .taken) _ (so (q .given .1) (played .play-at .ensures)) _ r _ (c .after-play .ensures _ (r ∙ sym (anew-is (now-at .to .map) (q .given .0 .0))))
 

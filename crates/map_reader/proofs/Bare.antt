@@ -11,7 +11,6 @@ use Rattle.rules.specs.Limits.{maxBonus, circleSize}
 use Rattle.rules.specs.Refusals.{pick}
 use Rattle.rules.proofs.Laws.{never}
 use Rattle.records.specs.Objects.{Kind, circle, slider, spinner, kindBonus}
-use Rattle.records.specs.Records.{FoundRecord}
 use Rattle.simulator.specs.Hits.{hitsOf}
 use Rattle.simulator.specs.Walk.{State, walk}
 use Rattle.simulator.specs.Nested.{counted}
@@ -21,7 +20,7 @@ use Rattle.map_reader.specs.declared.objects.Objects.{Objects}
 use Rattle.map_reader.specs.declared.objects.Stepped.{Stepped}
 use Rattle.map_reader.specs.declared.objects.Stepped.the-variants as step
 use Rattle.map_reader.specs.declared.objects.Ran.the-variants as ran
-use Rattle.map_reader.proofs.Running.{objectAt, next-short, next-long, Took, Stops, short, none, Answered, took, stop, over, answered, ran-next, ran-stop, ran-over}
+use Rattle.map_reader.proofs.Running.{next-short, next-long, Took, Stops, short, none, Answered, took, stop, over, answered, ran-next, ran-stop, ran-over}
 
 abbrev pub bareScore : State → State
 bareScore st = record {

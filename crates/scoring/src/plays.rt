@@ -178,7 +178,8 @@ pub fn check_behind(s: &[u8], map: Map, a: ScoreAttributes, passed: u64, index: 
     Checked::Good(wanted)
 }
 
-// Reads a file to its end, each play checked in its place, for its map and the attributes of its first objects.
+// Reads a file to its end, each play checked in its place, for its map and the attributes of its first objects. No play has the index that is asked for,
+// so that none is scored.
 pub fn check_plays(s: &[u8], passed: u64) -> Plays
     ensures { λ r. ⌜ PlaysOf (now (s .entry)) passed r ⌝ }
 {
@@ -186,7 +187,7 @@ pub fn check_plays(s: &[u8], passed: u64) -> Plays
         MapRead::Refused { number, offset } => Plays::Refused { number, offset },
         MapRead::Map(map) => {
             let a = attributes_of(s, map);
-            match check_behind(s, map, a, passed, 0) {
+            match check_behind(s, map, a, passed, u64::MAX) {
                 Checked::Refused { number, offset } => Plays::Refused { number, offset },
                 Checked::Good(_) => Plays::Good(map, a),
             }

@@ -1,7 +1,6 @@
 -- The walk is over the half spins of the duration.
 use mathlib.Core.Path.{_≡_, ap, _∙_}
 use Prim.Native.Nat.{ℕ, suc, _+_}
-use native.Mathlib.Omega.{arith}
 use borrow.Author.Needs.{needs}
 use Rattle.spinner.specs.HalfSpins.{totalHalfSpins, requiredHalfSpins}
 use Rattle.spinner.specs.Bonus.{sumsBefore, legacyOf, standardisedOf}

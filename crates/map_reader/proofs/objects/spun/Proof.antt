@@ -1,6 +1,6 @@
 -- The step is the simulator's own, of a spinner or of a circle.
-use mathlib.Core.Path.{_≡_, sym, ap, _∙_}
-use mathlib.Core.Bool.{Bool, true, false}
+use mathlib.Core.Path.{sym, ap, _∙_}
+use mathlib.Core.Bool.{Bool}
 use borrow.Author.Needs.{needs}
 use Rattle.records.specs.Objects.{spinner}
 use Rattle.simulator.specs.Hits.{hitsOf}

@@ -45,7 +45,7 @@ returns c =
 returns-2 : tie.Need-returns-2
 returns-2 c =
     let start = c .before .before .before .before .before .before .before .before .before .before in
-    refuses (check-refused (now (start .args .s)) 0 (so (c .before .number2 .given .1) (c .before .before .before .check-behind .ensures)))
+    refuses (check-refused (now (start .args .s)) 18446744073709551615 (so (c .before .number2 .given .1) (c .before .before .before .check-behind .ensures)))
 
 returns-3 : tie.Need-returns-3
 returns-3 c =

@@ -4,7 +4,6 @@ use native.Mathlib.Omega.{arith}
 use borrow.Author.Tests.{eq-eqb, ne-eqb}
 use borrow.Author.Needs.{needs}
 use Rattle.rules.proofs.Laws.{so, never}
-use Rattle.play_score.specs.declared.PlayScore.{PlayScore}
 use Rattle.play_score.specs.declared.Scored.the-variants as scored
 use Rattle.scoring.specs.View.{wantedAfter}
 use Rattle.scoring.specs.declared.plays.Wanted.the-variants as wanted

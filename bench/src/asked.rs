@@ -1,5 +1,7 @@
 //! What was asked of the library beside what a series measured.
 
+use std::iter::repeat;
+
 use crate::{
     boards::{BoardTimes, FactorTimes, Pair},
     cases::{HEAT_PLAYS, LONG_SLIDERS, WHOLE_HEATS},
@@ -23,7 +25,7 @@ struct Aim {
     what: String,
     objects: usize,
     asked: Asked,
-    /// None where instructions were not counted.
+    /// None where instructions were not counted, or the listing program is not there.
     measured: Option<Figure>,
 }
 
@@ -102,7 +104,7 @@ impl Aim {
                 measured(figure, self.asked),
                 figure.verdict(|round| self.asked.is_met(round)),
             ),
-            None => ("not counted".to_owned(), String::new()),
+            None => ("not measured".to_owned(), String::new()),
         };
         vec![
             self.what.clone(),
@@ -240,10 +242,18 @@ fn against_plain(results: &Results) -> [Aim; 4] {
     ]
 }
 
-/// The scores of a play from a file: at which sizes what part of the Rust's time is asked.
+/// The scores of a play from a file: at which sizes what part of the Rust's time is asked. Those of 0.34 stem from before
+/// the half spins were walked; since then 0.5 are asked at these sizes.
 fn scores(results: &Results) -> Vec<Aim> {
-    let one = [(10, 1.7), (100, 0.55), (1_000, 0.5)];
-    let in_turn = [(10, 0.9), (100, 0.4), (1_000, 0.34), (8_192, 0.34)];
+    let one = [(10, 1.7), (100, 0.55), (1_000, 0.5), (8_192, 0.5)];
+    let in_turn = [
+        (10, 0.9),
+        (100, 0.4),
+        (1_000, 0.34),
+        (1_000, 0.5),
+        (8_192, 0.34),
+        (8_192, 0.5),
+    ];
     let mut aims = of_scores(&results.rows(|round| &round.scores), &one);
     aims.extend(of_scores(&results.rows(|round| &round.different), &in_turn));
     aims
@@ -318,25 +328,33 @@ fn files(results: &Results) -> Vec<Aim> {
     aims
 }
 
+/// The first two files, of circles and of sliders, have bars of their own for the first two calls. The others are of
+/// spinners, on which all calls have the same bar.
 fn own_plays(results: &Results) -> Vec<Aim> {
-    type Call = (&'static str, fn(&OwnTimes) -> f64);
-    const CALLS: [Call; 2] = [
-        ("pjp_score_map", |times| times.score_map),
-        ("pjp_build", |times| times.build),
+    type Call = (&'static str, fn(&OwnTimes) -> Option<f64>);
+    const CALLS: [Call; 4] = [
+        ("`pjp_score_map`", |times| Some(times.score_map)),
+        ("`pjp_build`", |times| Some(times.build)),
+        ("`pjp_score_play_at`", |times| Some(times.score_play_at)),
+        ("the listing program", |times| times.list),
     ];
     let rows = results.rows(|round| &round.own_plays);
+    let bars = [(0.5, 2), (50.0, 2)].into_iter().chain(repeat((300.0, 4)));
     let aim = |row: &Row<OwnTimes>, most, (name, value): Call| Aim {
         what: format!(
-            "`{name}`, {} plays behind {}",
-            row.any().plays,
+            "{name}, {} plays behind {}",
+            whole(row.any().plays as u64),
             row.any().name
         ),
         objects: row.any().objects,
         asked: AtMost(most, Unit::Milliseconds),
-        measured: Some(row.figure(|times| value(times) / 1e6)),
+        measured: row.figure_if(|times| Some(value(times)? / 1e6)),
     };
-    let of_row = |(row, most)| CALLS.map(|call| aim(row, most, call));
-    rows.iter().zip([0.5, 50.0]).flat_map(of_row).collect()
+    let of_row = |(row, (most, calls))| {
+        let calls = CALLS.into_iter().take(calls);
+        calls.map(move |call| aim(row, most, call))
+    };
+    rows.iter().zip(bars).flat_map(of_row).collect()
 }
 
 #[cfg(test)]
@@ -373,10 +391,13 @@ mod tests {
             ": one file | 10 | at most 1.7 × the time | 0.278 × (0.139 to 0.556) | yes, in all 3 |",
             ": one file | 100 | at most 0.55 × the time | 0.278 × (0.139 to 0.556) | yes, in 2 of 3 |",
             ": one file | 1,000 | at most 0.5 × the time | 0.278 × (0.139 to 0.556) | yes, in 2 of 3 |",
+            ": one file | 8,192 | at most 0.5 × the time | 0.278 × (0.139 to 0.556) | yes, in 2 of 3 |",
             ": 33 files in turn | 10 | at most 0.9 × the time | 0.350 × (0.175 to 0.700) | yes, in all 3 |",
             "turn | 100 | at most 0.4 × the time | 0.350 × (0.175 to 0.700) | yes, in 2 of 3 |",
             "turn | 1,000 | at most 0.34 × the time | 0.350 × (0.175 to 0.700) | no, in 1 of 3 |",
+            "turn | 1,000 | at most 0.5 × the time | 0.350 × (0.175 to 0.700) | yes, in 2 of 3 |",
             "turn | 8,192 | at most 0.34 × the time | 0.350 × (0.175 to 0.700) | no, in 1 of 3 |",
+            "turn | 8,192 | at most 0.5 × the time | 0.350 × (0.175 to 0.700) | yes, in 2 of 3 |",
             ": 33 files in turn | 1,000 | at most 3 × the time | 2.00 × (1.00 to 4.00) | yes, in 2 of 3 |",
             "`pjp_score_map` | 10 | at most 2,400 instructions | 2,450 instructions | no |",
             "`pjp_score_map` | 1,000 | at most 69,500 instructions | 61,850 instructions | yes |",
@@ -387,6 +408,10 @@ mod tests {
             "| 3,275 | at most 0.5 ms | 0.600 ms (0.300 to 1.20) | no, in 1 of 3 |",
             "| 8,192 | at most 50 ms | 30.0 ms (15.0 to 60.0) | yes, in 2 of 3 |",
             "| 8,192 | at most 50 ms | 20.0 ms (10.0 to 40.0) | yes, in all 3 |",
+            "| 75 | at most 300 ms | 80.0 ms (40.0 to 160) | yes, in all 3 |",
+            "| 75 | at most 300 ms | 120 ms (60.0 to 240) | yes, in all 3 |",
+            "| 75 | at most 300 ms | 240 ms (120 to 480) | yes, in 2 of 3 |",
+            "the listing program, 100 plays behind spinners | 75 | at most 300 ms | 360 ms (180 to 720) | no, in 1 of 3 |",
         ];
         assert_eq!(rows.len(), ends.len(), "{text}");
         for (row, end) in rows.iter().zip(ends) {
@@ -395,10 +420,13 @@ mod tests {
     }
 
     #[test]
-    fn what_was_not_counted_is_said() {
+    fn what_was_not_measured_is_said() {
         let mut results = crate::results::example();
         results.counts = Err("valgrind does not run".to_owned());
         let text = asked(&results, "a processor");
-        assert_eq!(text.matches(" | not counted |  |\n").count(), 4);
+        assert_eq!(text.matches(" | not measured |  |\n").count(), 4);
+        results.rounds[1].own_plays[2].list = None;
+        let text = asked(&results, "a processor");
+        assert_eq!(text.matches(" | not measured |  |\n").count(), 5);
     }
 }

@@ -1,5 +1,7 @@
 //! The maps, edits and plays that are measured.
 
+pub mod spinners;
+
 use oracle::{
     encode::{self, encode},
     generate::{mixed::mixed_map, objects, random::Random},
@@ -132,10 +134,15 @@ fn heats(size: usize, passed: fn(&mut Random, usize) -> usize) -> Vec<Heat> {
 fn edit(r: &mut Random, map: &mut MapFile) -> Edit {
     let place = r.below(map.objects.len() as u64) as usize;
     let object = object(r, place);
-    let mut record = Vec::new();
-    encode::object(&mut record, &object);
+    let record = record(&object);
     map.objects[place] = object;
     Edit { place, record }
+}
+
+fn record(object: &Object) -> Vec<u8> {
+    let mut record = Vec::new();
+    encode::object(&mut record, object);
+    record
 }
 
 /// An object that starts in the place's third of a second.
@@ -181,7 +188,7 @@ fn play(r: &mut Random, passed: usize, combo: u32) -> Play {
         n100,
         n50,
         misses,
-        score: Some(r.between(1, 2_000 * passed as u64) as u32),
+        score: Some(r.between(1, 2_000 * passed.max(1) as u64) as u32),
         flags: r.pick(&[0, 1, 4, 8, 12, 16]),
         clock_rate: r.pick(&[0.75, 1.0, 1.5]),
         ..Play::default()

@@ -22,10 +22,11 @@ pub struct Heats {
     given: Vec<Given>,
 }
 
-/// A file and the plays of a heat on its map.
-struct Given {
-    file: Vec<u8>,
-    plays: Vec<sys::Play>,
+/// A file and the plays of a heat on its map, whose outcomes are held to the Rust's values and to those of calls on one
+/// play.
+pub struct Given {
+    pub file: Vec<u8>,
+    pub plays: Vec<sys::Play>,
 }
 
 /// Nanoseconds.
@@ -44,7 +45,6 @@ pub struct HeatTimes {
     pub call: f64,
 }
 
-/// The heats, whose outcomes are held to the Rust's values and to those of calls on one play.
 pub fn heats() -> Vec<Heats> {
     type Kind = (&'static str, fn(usize) -> Vec<Heat>);
     let kinds: [Kind; 2] = [
@@ -62,7 +62,7 @@ pub fn heats() -> Vec<Heats> {
 }
 
 impl Given {
-    fn checked(heat: &Heat) -> Self {
+    pub fn checked(heat: &Heat) -> Self {
         let original = Original::new(&heat.map);
         let file = encode(&heat.map);
         let plays: Vec<sys::Play> = heat.plays.iter().map(proved::play).collect();

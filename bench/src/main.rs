@@ -15,6 +15,7 @@ mod figure;
 mod heats;
 mod instructions;
 mod lent;
+mod listing;
 mod machine;
 mod measure;
 mod number;
@@ -26,6 +27,7 @@ mod proved;
 mod reading;
 mod results;
 mod scores;
+mod spinners;
 mod table;
 
 use std::{env, fs, path::Path, process::ExitCode};

@@ -7,7 +7,7 @@ use std::time::Instant;
 pub struct Series {
     pub rounds: usize,
     pub samples: Samples,
-    /// Of calls that go through megabytes.
+    /// Of calls that take milliseconds.
     pub few: Samples,
 }
 
@@ -30,6 +30,9 @@ impl Series {
 pub struct Samples(usize);
 
 impl Samples {
+    /// Of calls that take a good part of a second: the rounds are enough.
+    pub const ONE: Self = Self(1);
+
     pub fn count(self) -> usize {
         self.0
     }

@@ -1,10 +1,21 @@
 //! Files whose own plays passed other counts than all objects, each of which is checked against its own passed objects.
 
-use std::hint::black_box;
+use std::{collections::HashMap, hint::black_box};
 
-use oracle::{encode::encode, map::MapFile, values::Original};
+use oracle::{
+    encode::encode,
+    map::{MapFile, ObjectKind},
+    values::{Attributes, Original},
+};
 
-use crate::{answer::Answer, cases, lent::Lent, measure::Series, proved};
+use crate::{
+    answer::Answer,
+    cases::{self, spinners},
+    lent::Lent,
+    listing,
+    measure::Series,
+    proved,
+};
 
 /// A file of which each call gives the right values.
 pub struct OwnPlays {
@@ -12,6 +23,8 @@ pub struct OwnPlays {
     objects: usize,
     plays: usize,
     file: Vec<u8>,
+    /// Whether a call takes milliseconds.
+    is_slow: bool,
 }
 
 /// Nanoseconds of one call.
@@ -24,6 +37,10 @@ pub struct OwnTimes {
     pub bytes: usize,
     pub score_map: f64,
     pub build: f64,
+    /// Of the last play.
+    pub score_play_at: f64,
+    /// Of the listing program, a whole process, where it is there and takes a file of that length.
+    pub list: Option<f64>,
 }
 
 /// The files, whose calls are held to the Rust's values.
@@ -36,6 +53,26 @@ pub fn files() -> Vec<OwnPlays> {
         (
             "sliders of 1,000 nested items, each play passed all but the last",
             cases::plays_of_all_but_the_last(),
+        ),
+        (
+            "spinners of an hour, each play passed all but the last",
+            spinners::plays_of_all_hours_but_the_last(),
+        ),
+        (
+            "spinners of an hour, the plays passed 74 to 0 in turn",
+            spinners::plays_of_counts_of_hours(),
+        ),
+        (
+            "75 spinners of an hour and then circles, the plays passed 74 to 1 in turn",
+            spinners::plays_inside_hours(),
+        ),
+        (
+            "spinners of 1,576 half spins, each play passed another count",
+            spinners::plays_on_many_spinners(),
+        ),
+        (
+            "spinners of 56,785 half spins, each play passed all but the last",
+            spinners::plays_of_most_half_spins(),
         ),
     ];
     files
@@ -61,22 +98,29 @@ impl OwnPlays {
             let ours = proved::score_play_at(&file, place as u64);
             assert_eq!(Answer::from(ours), due);
         }
+        if listing::takes(&file) {
+            let is_due = listing::list(&file) == due_listing(map, &original).into_bytes();
+            assert!(is_due, "the listing differs of {name}");
+        }
+        let is_spinner = |kind: &ObjectKind| matches!(kind, ObjectKind::Spinner { .. });
         Self {
             name,
             objects,
             plays: map.plays.len(),
+            is_slow: file.len() > 1_000_000 || is_spinner(&map.objects[0].kind),
             file,
         }
     }
 
     pub fn measure(&self, series: Series) -> OwnTimes {
         let file = &self.file;
-        let samples = match file.len() {
-            0..1_000_000 => series.samples,
-            _ => series.few,
+        let samples = match self.is_slow {
+            true => series.few,
+            false => series.samples,
         };
         let mut board = Lent::new(self.objects);
-        let [score_map, build] = samples.medians(
+        let last = self.plays as u64 - 1;
+        let [score_map, build, score_play_at] = samples.medians(
             1,
             [
                 &mut || {
@@ -84,6 +128,9 @@ impl OwnPlays {
                 },
                 &mut || {
                     black_box(board.build(black_box(file)));
+                },
+                &mut || {
+                    black_box(proved::score_play_at(black_box(file), last));
                 },
             ],
         );
@@ -94,6 +141,36 @@ impl OwnPlays {
             bytes: file.len(),
             score_map,
             build,
+            score_play_at,
+            list: self.list(series),
         }
     }
+
+    fn list(&self, series: Series) -> Option<f64> {
+        if !listing::takes(&self.file) {
+            return None;
+        }
+        let mut list = || {
+            black_box(listing::list(&self.file));
+        };
+        let [time] = series.few.medians(1, [&mut list]);
+        Some(time)
+    }
+}
+
+/// The listing by the Rust's values. The Rust walks its spinners for each play, which would take half a minute: so the values
+/// of each passed count are kept.
+fn due_listing(map: &MapFile, original: &Original) -> String {
+    let alone = MapFile {
+        plays: Vec::new(),
+        ..map.clone()
+    };
+    let mut text = oracle::listing::listing(&Ok(alone));
+    let mut known: HashMap<u16, Attributes> = HashMap::new();
+    for (index, play) in map.plays.iter().enumerate() {
+        let anew = || original.attributes(play.passed.into());
+        let attributes = known.entry(play.passed).or_insert_with(anew);
+        text += &oracle::listing::play_line(index, &attributes.estimates(play));
+    }
+    text
 }

@@ -26,6 +26,8 @@ pub fn page(results: &Results, series: Series, machine: &Machine, taken: Option<
         factor_reads = table::factor_reads(results),
         files = table::files(results),
         own_plays = table::own_plays(results),
+        spinner_walks = table::spinner_walks(results),
+        spinner_edits = table::spinner_edits(results),
         readings = table::readings(results),
         counts = table::counts(&results.counts),
         factor_counts = table::factor_counts(&results.counts),

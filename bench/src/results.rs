@@ -10,6 +10,7 @@ use crate::{
     own_plays::{self, OwnPlays, OwnTimes},
     reading::{self, ReadingTimes},
     scores::{self, ScoreTimes},
+    spinners::{self, EditTimes, Spinners, WalkTimes},
 };
 
 pub struct Results {
@@ -28,6 +29,8 @@ pub struct Round {
     pub boards: Vec<BoardTimes>,
     pub readings: Vec<ReadingTimes>,
     pub own_plays: Vec<OwnTimes>,
+    pub spinner_walks: Vec<WalkTimes>,
+    pub spinner_edits: Vec<EditTimes>,
 }
 
 /// The same row in each round.
@@ -41,6 +44,12 @@ impl<T> Row<'_, T> {
 
     pub fn figure(&self, value: impl Fn(&T) -> f64) -> Figure {
         self.0.iter().map(|row| value(row)).collect()
+    }
+
+    /// Of what each round has measured, or none.
+    pub fn figure_if(&self, value: impl Fn(&T) -> Option<f64>) -> Option<Figure> {
+        let rounds: Option<Vec<f64>> = self.0.iter().map(|row| value(row)).collect();
+        Some(Figure::from_iter(rounds?))
     }
 
     pub fn median(&self, value: impl Fn(&T) -> f64) -> f64 {
@@ -62,16 +71,32 @@ impl Results {
 
 /// Instructions are counted at each of the sizes that are named.
 pub fn measure(series: Series, counted: &[usize]) -> Results {
-    let (heats, own_plays) = (heats::heats(), own_plays::files());
+    let checked = Checked {
+        heats: heats::heats(),
+        own_plays: own_plays::files(),
+        spinners: spinners::checked(),
+    };
     Results {
         rounds: (0..series.rounds)
-            .map(|_| round(series, &heats, &own_plays))
+            .map(|_| round(series, &checked))
             .collect(),
         counts: counted.iter().copied().map(instructions::measure).collect(),
     }
 }
 
-fn round(series: Series, heats: &[Heats], own_plays: &[OwnPlays]) -> Round {
+/// What is held to the right values once for all rounds, since that takes longer than to measure it.
+struct Checked {
+    heats: Vec<Heats>,
+    own_plays: Vec<OwnPlays>,
+    spinners: Spinners,
+}
+
+fn round(series: Series, checked: &Checked) -> Round {
+    let Checked {
+        heats,
+        own_plays,
+        spinners,
+    } = checked;
     let samples = series.samples;
     let mut scores = Vec::new();
     let mut different = Vec::new();
@@ -93,6 +118,8 @@ fn round(series: Series, heats: &[Heats], own_plays: &[OwnPlays]) -> Round {
             .map(|file| reading::measure(file, samples))
             .collect(),
         own_plays: own_plays.iter().map(|file| file.measure(series)).collect(),
+        spinner_walks: spinners.walks(series),
+        spinner_edits: spinners.edits(series),
     }
 }
 
@@ -167,7 +194,10 @@ fn example_round(times: f64) -> Round {
         bytes: 10 * objects,
         score_map: score_map * times,
         build: build * times,
+        score_play_at: 2.0 * build * times,
+        list: (objects < 8_192).then_some(3.0 * build * times),
     };
+    let walk = |time, half_spins| spinners::Walk { time, half_spins };
     let heat = |name, size: usize, heat| HeatTimes {
         name,
         size,
@@ -190,7 +220,19 @@ fn example_round(times: f64) -> Round {
         own_plays: vec![
             own_plays("circles", 3_275, 4e5, 6e5),
             own_plays("sliders", 8_192, 3e7, 2e7),
+            own_plays("spinners", 75, 8e7, 1.2e8),
         ],
+        spinner_walks: vec![WalkTimes {
+            name: "a call",
+            objects: 75,
+            ours: walk(2e6 * times, 1_000_000),
+            rust: walk(3e6, 1_000_000),
+        }],
+        spinner_edits: vec![EditTimes {
+            name: "a circle",
+            objects: 1_000,
+            edit: pair(300.0),
+        }],
     }
 }
 

@@ -10,6 +10,7 @@ use crate::{
     reading::ReadingTimes,
     results::{Results, Row},
     scores::ScoreTimes,
+    spinners::{EditTimes, WalkTimes},
 };
 
 /// A table whose numbers stand to the right; the first columns, as many as are said, hold words.
@@ -199,6 +200,9 @@ pub fn own_plays(results: &Results) -> String {
             whole(row.any().bytes as u64),
             time(row.median(|times| times.score_map)),
             time(row.median(|times| times.build)),
+            time(row.median(|times| times.score_play_at)),
+            row.figure_if(|times| times.list)
+                .map_or("-".to_owned(), |figure| time(figure.median())),
         ]
     };
     markdown(
@@ -210,8 +214,55 @@ pub fn own_plays(results: &Results) -> String {
             "bytes",
             "`pjp_score_map`",
             "`pjp_build`",
+            "`pjp_score_play_at`",
+            "listing",
         ],
         rows(results.rows(|round| &round.own_plays), row),
+    )
+}
+
+pub fn spinner_walks(results: &Results) -> String {
+    let row = |row: Row<WalkTimes>| {
+        vec![
+            row.any().name.to_owned(),
+            whole(row.any().objects as u64),
+            time(row.median(|times| times.ours.time)),
+            whole(row.any().ours.half_spins),
+            time(row.median(|times| times.ours.of_one())),
+            time(row.median(|times| times.rust.time)),
+            whole(row.any().rust.half_spins),
+            time(row.median(|times| times.rust.of_one())),
+        ]
+    };
+    markdown(
+        1,
+        &[
+            "call",
+            "objects",
+            "ours",
+            "half spins",
+            "a half spin",
+            "the Rust",
+            "half spins",
+            "a half spin",
+        ],
+        rows(results.rows(|round| &round.spinner_walks), row),
+    )
+}
+
+pub fn spinner_edits(results: &Results) -> String {
+    let row = |row: Row<EditTimes>| {
+        vec![
+            row.any().name.to_owned(),
+            whole(row.any().objects as u64),
+            time(row.median(|times| times.edit.ours)),
+            time(row.median(|times| times.edit.plain)),
+        ]
+    };
+    markdown(
+        1,
+        &["an edit that puts", "objects", "ours", "plain Rust"],
+        rows(results.rows(|round| &round.spinner_edits), row),
     )
 }
 

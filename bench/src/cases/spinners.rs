@@ -23,8 +23,7 @@ pub fn plays_of_all_hours_but_the_last() -> MapFile {
     with_plays(hours(), |_| HOURS - 1)
 }
 
-/// The same with each count but that of all spinners, in turn. Here and below the first play passed the most: it is the one
-/// that is scored while a file is checked.
+/// The same with each count but that of all spinners, in turn.
 pub fn plays_of_counts_of_hours() -> MapFile {
     with_plays(hours(), |place| HOURS - 1 - place % HOURS)
 }

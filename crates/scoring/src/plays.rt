@@ -179,7 +179,7 @@ pub fn check_behind(s: &[u8], map: Map, a: ScoreAttributes, passed: u64, index: 
 }
 
 // Reads a file to its end, each play checked in its place, for its map and the attributes of its first objects. No play has the index that is asked for,
-// so that none is scored.
+// so that from marks none is scored.
 pub fn check_plays(s: &[u8], passed: u64) -> Plays
     ensures { λ r. ⌜ PlaysOf (now (s .entry)) passed r ⌝ }
 {

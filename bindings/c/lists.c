@@ -17,12 +17,13 @@ typedef struct {
     unsigned objects, turns, times, nested, spinners, seconds;
 } style;
 
-/* The bonus of the maps of 200, 700 and 5,000 objects is soon so near its limit that edits get 7, and the combo of 300 objects passes 46,341. */
+/* The bonus of the second map of 300 objects is from the start so near its limit that edits get 7. Each build and score of it goes through some 4 million
+ * half spins, so that its list is short, and the other maps of many objects have short spinners. The combo of the first one passes 46,341. */
 static const style STYLES[] = {
-    {0, 400, 4, 0, 0, 0},           {1, 800, 0, 1000, 60, 3600},    {2, 800, 2, 1000, 60, 3600},  {3, 800, 256, 1000, 40, 3600},
-    {5, 1600, 6, 1000, 40, 3600},   {64, 2400, 10, 1000, 30, 3600}, {65, 4000, 0, 40, 30, 3600},  {200, 4000, 2, 10, 98, 3600},
-    {300, 1600, 40, 1000, 10, 100}, {700, 1600, 4, 10, 80, 1540},   {2000, 1600, 0, 100, 30, 10}, {5000, 1600, 100, 30, 30, 675},
-    {8192, 1600, 2, 10, 30, 100},
+    {0, 400, 4, 0, 0, 0},           {1, 800, 0, 1000, 60, 3600},   {2, 800, 2, 1000, 60, 3600},  {3, 800, 256, 1000, 40, 3600},
+    {5, 1600, 6, 1000, 40, 3600},   {64, 2400, 10, 1000, 30, 600}, {65, 4000, 0, 40, 30, 600},   {200, 4000, 2, 10, 98, 60},
+    {300, 1600, 40, 1000, 10, 100}, {300, 200, 2, 10, 98, 3600},   {700, 1600, 4, 10, 80, 20},   {2000, 1600, 0, 100, 30, 10},
+    {5000, 1600, 100, 30, 30, 10},  {8192, 1600, 2, 10, 30, 10},
 };
 enum { LISTS = sizeof STYLES / sizeof *STYLES };
 

@@ -13,7 +13,7 @@ use rules::refusal;
 use tree::put::Put;
 
 // The object of a record that stands alone, or the number of what is wrong with it.
-#[derive(Drop)]
+#[derive(Clone, Copy)]
 pub enum Alone {
     Is(HitObject),
     Refused(u8),

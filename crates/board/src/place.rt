@@ -10,14 +10,14 @@ use tree::put::{Put, quick_climb};
 use tree::size::{Size, size_of};
 
 // What a build or an edit answers.
-#[derive(Drop)]
+#[derive(Clone, Copy)]
 pub enum Written {
     Done,
     Refused { number: u8, offset: usize },
 }
 
 // The size of the board, or the number of what is wrong.
-#[derive(Drop)]
+#[derive(Clone, Copy)]
 pub enum Room {
     Is(Size),
     Refused(u8),

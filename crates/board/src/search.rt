@@ -12,25 +12,25 @@ use tree::first::quick_sum_of_first;
 use tree::size::Size;
 
 // The starts of the first object and of the last that counts; both 0 where a map has none.
-#[derive(Drop)]
+#[derive(Clone, Copy)]
 pub struct Starts {
     pub first: f64,
     pub last: f64,
 }
 
-#[derive(Drop)]
+#[derive(Clone, Copy)]
 pub enum StartsFound {
     Are(Starts),
     Bad,
 }
 
-#[derive(Drop)]
+#[derive(Clone, Copy)]
 pub struct Found {
     pub sum: Entry,
     pub starts: Starts,
 }
 
-#[derive(Drop)]
+#[derive(Clone, Copy)]
 pub enum Search {
     Found(Found),
     Refused(u8),

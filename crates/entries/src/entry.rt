@@ -9,7 +9,7 @@ use simulator::legacy_score::NestedScorePerObject;
 use simulator::legacy_score_simulator::OsuLegacyScoreSimulator;
 
 // Combo and combos_before are document 01's k and s, first_no_slider its f.
-#[derive(Drop)]
+#[derive(Clone, Copy)]
 pub struct Entry {
     pub object_count: u64,
     pub combo: u64,

@@ -15,7 +15,7 @@ use play_state::{OsuHitResults, OsuScoreOrigin, Play};
 use simulator::attributes::OsuDifficultyAttributes;
 
 // What a play is told: "Play: index, accuracy, combo-based, score-based (`-` if absent), effective".
-#[derive(Drop)]
+#[derive(Clone, Copy)]
 pub struct Estimates {
     pub accuracy: f64,
     pub combo_based: f64,

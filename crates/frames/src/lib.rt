@@ -1,4 +1,5 @@
 // What the program that replays stored answers does with a lent space: its front read from standard input, and two texts held against each other.
+#![tactic(auto)]
 use libc::STDIN_FILENO;
 
 // Reads the next bytes of the input to the front of the space, and says whether all are there.

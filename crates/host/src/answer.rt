@@ -11,7 +11,7 @@ use simulator::attributes::ScoreAttributes;
 
 // Of the passed objects, or of all of a map.
 #[repr(C)]
-#[derive(Drop)]
+#[derive(Clone, Copy)]
 pub struct HostAttributes {
     pub object_count: u64,
     pub multiplier: u64,
@@ -31,7 +31,7 @@ pub struct HostAttributes {
 
 // An absent score-based estimate is 0.0 with a mark of 0.
 #[repr(C)]
-#[derive(Drop)]
+#[derive(Clone, Copy)]
 pub struct HostEstimates {
     pub accuracy: f64,
     pub combo_based: f64,
@@ -41,7 +41,7 @@ pub struct HostEstimates {
 }
 
 #[repr(C)]
-#[derive(Drop)]
+#[derive(Clone, Copy)]
 pub struct MapAnswer {
     pub status: u8,
     pub offset: usize,
@@ -49,7 +49,7 @@ pub struct MapAnswer {
 }
 
 #[repr(C)]
-#[derive(Drop)]
+#[derive(Clone, Copy)]
 pub struct PlayAnswer {
     pub status: u8,
     pub offset: usize,

@@ -9,14 +9,14 @@ use slider_breaks::calculator::{SliderBreaks, SliderFactors, slider_breaks};
 use slider_breaks::has_bad_factors;
 
 #[repr(C)]
-#[derive(Drop)]
+#[derive(Clone, Copy)]
 pub struct HostFactors {
     pub aim: f64,
     pub speed: f64,
 }
 
 #[repr(C)]
-#[derive(Drop)]
+#[derive(Clone, Copy)]
 pub struct HostSliderBreaks {
     pub aim: f64,
     pub speed: f64,
@@ -24,7 +24,7 @@ pub struct HostSliderBreaks {
 
 // The fields of `PlayAnswer`, and the slider breaks.
 #[repr(C)]
-#[derive(Drop)]
+#[derive(Clone, Copy)]
 pub struct BreaksAnswer {
     pub status: u8,
     pub offset: usize,
@@ -34,7 +34,7 @@ pub struct BreaksAnswer {
 }
 
 // What factors add to an answer.
-#[derive(Drop)]
+#[derive(Clone, Copy)]
 pub enum Added {
     BadFactors,
     SliderBreaks(SliderBreaks),

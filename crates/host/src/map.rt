@@ -7,7 +7,7 @@ use play_reader::Answer;
 use records::beatmap::Settings;
 
 #[repr(C)]
-#[derive(Drop)]
+#[derive(Clone, Copy)]
 pub struct HostSettings {
     pub hp: f32,
     pub od: f32,
@@ -16,7 +16,7 @@ pub struct HostSettings {
 
 // The status is 0, or the number of the refusal at the offset, with no value.
 #[repr(C)]
-#[derive(Drop)]
+#[derive(Clone, Copy)]
 pub struct MapInfo {
     pub status: u8,
     pub offset: usize,

@@ -9,7 +9,7 @@ use play_state::{
 
 // The fields of a play's record, those of 8 bytes first.
 #[repr(C)]
-#[derive(Drop)]
+#[derive(Clone, Copy)]
 pub struct HostPlay {
     pub clock_rate: f64,
     pub max_combo: u32,

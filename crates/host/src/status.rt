@@ -6,7 +6,7 @@ use board::place::Written;
 
 // 0, or the number of the refusal and its offset.
 #[repr(C)]
-#[derive(Drop)]
+#[derive(Clone, Copy)]
 pub struct Status {
     pub status: u8,
     pub offset: usize,

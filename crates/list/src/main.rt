@@ -1,5 +1,6 @@
 // The listing program of document 01: a map file on standard input, its listing on standard output. A program cannot choose its exit status: where
 // input or output fails, it says so on standard error and lists nothing, or nothing more.
+#![tactic(auto)]
 ghost use Rattle.std.specs.Prelude.{length};
 ghost use Rattle.list.specs.Places.{MovedWithin, InputWithin};
 
@@ -13,7 +14,7 @@ const INPUT: usize = MAX_INPUT + 1;
 const LISTING: usize = 262144;
 
 // What a call that moves bytes did: the place behind them, which is the old place where a signal came first; nothing is left; or an error.
-#[derive(Drop)]
+#[derive(Clone, Copy)]
 enum Moved {
     To(usize),
     End,
@@ -21,7 +22,7 @@ enum Moved {
 }
 
 // How much of the space is input.
-#[derive(Drop)]
+#[derive(Clone, Copy)]
 enum Input {
     Bytes(usize),
     Failed,

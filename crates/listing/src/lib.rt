@@ -1,4 +1,5 @@
 // The text of the listing program, written into a lent space: which lines a file gets, and what stands in them.
+#![tactic(auto)]
 ghost use Rattle.std.specs.Prelude.{◌≡◌, ◌≤◌, length};
 ghost use Rattle.text.specs.Space.{put_at, behind};
 ghost use Rattle.map_file.specs.File.{file_of};
@@ -18,7 +19,7 @@ use scoring::plays::{Plays, check_plays};
 pub const MAX_INPUT: usize = 65536;
 
 // How many bytes of the space the text takes, if it is longer than the text.
-#[derive(Drop)]
+#[derive(Clone, Copy)]
 pub enum Listed {
     Text(usize),
     NoRoom,

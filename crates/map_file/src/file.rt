@@ -29,7 +29,7 @@ pub const OBJECT_RANK: u8 = 3;
 pub const PLAY_RANK: u8 = 4;
 
 // What the checks of the next record lean on: the last record's place in the order, the records so far and their legacy bonus.
-#[derive(Drop)]
+#[derive(Clone, Copy)]
 pub struct Counts {
     pub last: u8,
     pub breaks: u64,
@@ -38,7 +38,7 @@ pub struct Counts {
 }
 
 // Where a reader of a file stands.
-#[derive(Drop)]
+#[derive(Clone, Copy)]
 pub struct Reader {
     pub at: usize,
     pub settings: Settings,

@@ -19,7 +19,7 @@ use records::record::{Read, Record};
 use rules::refusal;
 
 // What stands in a map, and where it ends; `passed` is the state behind its first objects.
-#[derive(Drop)]
+#[derive(Clone, Copy)]
 pub struct Map {
     pub end: usize,
     pub settings: Settings,
@@ -29,20 +29,20 @@ pub struct Map {
     pub passed: Objects,
 }
 
-#[derive(Drop)]
+#[derive(Clone, Copy)]
 pub enum MapRead {
     Map(Map),
     Refused { number: u8, offset: usize },
 }
 
-#[derive(Drop)]
+#[derive(Clone, Copy)]
 pub enum Head {
     Is(Settings),
     Refused(u8),
 }
 
 // Behind a map stand its plays or nothing, else a record that is refused.
-#[derive(Drop)]
+#[derive(Clone, Copy)]
 pub enum Stop {
     Ends,
     Refused(u8),

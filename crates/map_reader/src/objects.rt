@@ -16,7 +16,7 @@ use simulator::legacy_score::NestedScorePerObject;
 use simulator::legacy_score_simulator::OsuLegacyScoreSimulator;
 
 // The running state behind some objects, how many they are, and where the next record begins.
-#[derive(Drop)]
+#[derive(Clone, Copy)]
 pub struct Objects {
     pub at: usize,
     pub score: OsuLegacyScoreSimulator,
@@ -25,14 +25,14 @@ pub struct Objects {
 }
 
 // Behind OverBonus only the offset is needed, so that no former state is kept beside the new one.
-#[derive(Drop)]
+#[derive(Clone, Copy)]
 pub enum Stepped {
     Next(Objects),
     Stop,
     OverBonus,
 }
 
-#[derive(Drop)]
+#[derive(Clone, Copy)]
 pub enum Ran {
     To(Objects),
     OverBonus(usize),

@@ -1,5 +1,6 @@
 // The states behind some objects of a map, kept, so that any number of passed objects is a few steps from one of them. They have no bonus, so that no
 // half spin is walked for them: a play is checked and its misses are estimated without.
+#![tactic(auto)]
 ghost use Rattle.std.specs.Prelude.{◌≡◌, ◌≤◌, ◌<◌, false};
 ghost use Rattle.rules.specs.Limits.{max_objects};
 ghost use Rattle.map_reader.specs.Objects.{Small};
@@ -14,7 +15,7 @@ use play_state::Play;
 use simulator::attributes::ScoreAttributes;
 
 // The i-th is behind i strides of objects.
-#[derive(Drop)]
+#[derive(Clone, Copy)]
 pub struct Marks {
     pub states: [Objects; 128],
 }

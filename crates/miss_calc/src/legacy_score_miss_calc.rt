@@ -13,7 +13,7 @@ use simulator::attributes::OsuDifficultyAttributes;
 use square_root::powf_2_5;
 
 // What the estimate leans on: the play's accuracy, combo, hits and modifiers, and the attributes of the passed objects.
-#[derive(Drop)]
+#[derive(Clone, Copy)]
 pub struct OsuLegacyScoreMissCalculator {
     pub acc: f64,
     pub max_combo: u32,
@@ -22,7 +22,7 @@ pub struct OsuLegacyScoreMissCalculator {
     pub attrs: OsuDifficultyAttributes,
 }
 
-#[derive(Drop)]
+#[derive(Clone, Copy)]
 pub enum MissCount {
     Absent,
     Is(f64),

@@ -43,7 +43,7 @@ pub fn f32_to_f64(x: f32) -> f64
 }
 
 // A float taken apart. A finite one is significand * 2 ^ exponent of the smallest value, 2 ^ -1074: the significand has 53 digits, or the exponent is 0.
-#[derive(Drop)]
+#[derive(Clone, Copy)]
 pub enum Parts {
     NotANumber,
     Infinite {

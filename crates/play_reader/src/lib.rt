@@ -1,4 +1,5 @@
 // The plays behind a map: the records of a file from the map's end on.
+#![tactic(auto)]
 ghost use Rattle.std.specs.Prelude.{◌≡◌, length, drop};
 ghost use Rattle.map_file.specs.File.{file_of};
 ghost use Rattle.play_reader.specs.Plays.{play_in, MapFileOf};
@@ -15,26 +16,26 @@ use rules::refusal;
 use simulator::attributes::ScoreAttributes;
 
 // The play of a record, or the number of its refusal.
-#[derive(Drop)]
+#[derive(Clone, Copy)]
 pub enum PlayRead {
     Is(Play),
     Refused(u8),
 }
 
 // A map behind which only good records of plays stand.
-#[derive(Drop)]
+#[derive(Clone, Copy)]
 pub enum MapFile {
     Good(Map),
     Refused { number: u8, offset: usize },
 }
 
-#[derive(Drop)]
+#[derive(Clone, Copy)]
 pub enum Answer {
     Map(Reader),
     Refused { number: u8, offset: usize },
 }
 
-#[derive(Drop)]
+#[derive(Clone, Copy)]
 pub enum Simulated {
     Map(ScoreAttributes),
     Refused { number: u8, offset: usize },

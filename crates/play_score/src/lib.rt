@@ -1,4 +1,5 @@
 // A play on the passed objects of its map: what it is refused for, and its score.
+#![tactic(auto)]
 ghost use Rattle.std.specs.Prelude.{◌≡◌};
 ghost use Rattle.play_score.specs.PlayRules.{mods_bad, hits_exceed, exceeds, play_score, scored_of, given_of, given_answer, given_score};
 
@@ -11,20 +12,20 @@ use rules::refusal;
 use simulator::attributes::{OsuDifficultyAttributes, ScoreAttributes};
 
 // The attributes of the passed objects, and what the play is told of its misses.
-#[derive(Drop)]
+#[derive(Clone, Copy)]
 pub struct PlayScore {
     pub attributes: ScoreAttributes,
     pub estimates: Estimates,
 }
 
-#[derive(Drop)]
+#[derive(Clone, Copy)]
 pub enum Scored {
     Score(PlayScore),
     Refused(u8),
 }
 
 // The answer for a play that is given beside its map.
-#[derive(Drop)]
+#[derive(Clone, Copy)]
 pub enum GivenPlay {
     Score(PlayScore),
     Refused { number: u8, offset: usize },

@@ -1,8 +1,9 @@
 // A play: its hits, origin, score and modifiers.
+#![tactic(auto)]
 ghost use Rattle.std.specs.Prelude.{◌≡◌, ◌<◌};
 ghost use Rattle.play_state.specs.Play.{origin_of, score_of, flag_at, flags_bad};
 
-#[derive(Drop)]
+#[derive(Clone, Copy)]
 pub struct OsuHitResults {
     pub large_tick_hits: u32,
     pub small_tick_hits: u32,
@@ -13,27 +14,27 @@ pub struct OsuHitResults {
     pub misses: u16,
 }
 
-#[derive(Drop)]
+#[derive(Clone, Copy)]
 pub enum OsuScoreOrigin {
     Stable,
     WithSliderAcc,
     WithoutSliderAcc,
 }
 
-#[derive(Drop)]
+#[derive(Clone, Copy)]
 pub enum LegacyTotalScore {
     Absent,
     Present(u32),
 }
 
 // The modifiers: a bit for each, from the lowest nf, ez, hd, hr, fl, so, rx, ap, sv2, and the clock rate.
-#[derive(Drop)]
+#[derive(Clone, Copy)]
 pub struct GameMods {
     pub flags: u16,
     pub clock_rate: f64,
 }
 
-#[derive(Drop)]
+#[derive(Clone, Copy)]
 pub struct Play {
     pub passed_objects: u16,
     pub max_combo: u32,
@@ -120,13 +121,13 @@ pub fn has_unknown_flags(flags: u16) -> bool
     flags >> GameMods::FLAGS != 0
 }
 
-#[derive(Drop)]
+#[derive(Clone, Copy)]
 pub enum Origin {
     Is(OsuScoreOrigin),
     Bad,
 }
 
-#[derive(Drop)]
+#[derive(Clone, Copy)]
 pub enum Score {
     Is(LegacyTotalScore),
     Bad,

@@ -1,6 +1,7 @@
 // The engine for hosts in C and Rust: numbers and #[repr(C)] structs by value, and slices of them. No function asks anything of its caller but valid
 // slices that do not overlap.
 
+#![tactic(auto)]
 ghost use Rattle.std.specs.Prelude.{◌≡◌};
 ghost use Rattle.map_file.specs.File.{file_of};
 ghost use Rattle.play_reader.specs.View.{answer_of};

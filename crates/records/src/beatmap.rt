@@ -1,5 +1,5 @@
 // What stands before the objects of a map: the settings and the breaks.
-#[derive(Drop)]
+#[derive(Clone, Copy)]
 pub struct Settings {
     pub hp: f32,
     pub od: f32,
@@ -11,7 +11,7 @@ impl Settings {
     pub const SIZE: usize = 14;
 }
 
-#[derive(Drop)]
+#[derive(Clone, Copy)]
 pub struct BreakPeriod {
     pub start_time: f64,
     pub end_time: f64,

@@ -6,13 +6,13 @@ ghost use Rattle.records.specs.Fields.{is_time, is_duration, is_rate, is_setting
 use numbers::bits::{f32_from_bits, f64_from_bits};
 use numbers::words::word_at;
 
-#[derive(Drop)]
+#[derive(Clone, Copy)]
 pub enum Double {
     Is(f64),
     Bad,
 }
 
-#[derive(Drop)]
+#[derive(Clone, Copy)]
 pub enum Single {
     Is(f32),
     Bad,

@@ -7,7 +7,7 @@ pub const SL: u64 = 0x4c53;
 pub const SP: u64 = 0x5053;
 
 // The nested items before a slider's tail, counted.
-#[derive(Drop)]
+#[derive(Clone, Copy)]
 pub struct Slider {
     pub repeats: u64,
     pub ticks: u64,
@@ -17,19 +17,19 @@ impl Slider {
     pub const MAX_NESTED: u64 = 1000;
 }
 
-#[derive(Drop)]
+#[derive(Clone, Copy)]
 pub struct Spinner {
     pub duration: f64,
 }
 
-#[derive(Drop)]
+#[derive(Clone, Copy)]
 pub enum HitObjectKind {
     Circle,
     Slider(Slider),
     Spinner(Spinner),
 }
 
-#[derive(Drop)]
+#[derive(Clone, Copy)]
 pub struct HitObject {
     pub start_time: f64,
     pub kind: HitObjectKind,

@@ -10,7 +10,7 @@ use crate::record::{Read, Record};
 use numbers::words::word_at;
 use rules::refusal;
 
-#[derive(Drop)]
+#[derive(Clone, Copy)]
 pub enum Nested {
     Counts(Slider),
     Wrong,

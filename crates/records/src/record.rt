@@ -3,7 +3,7 @@ use crate::beatmap::{BreakPeriod, Settings};
 use crate::hit_object::HitObject;
 use play_state::Play;
 
-#[derive(Drop)]
+#[derive(Clone, Copy)]
 pub enum Record {
     Header(Settings),
     Break(BreakPeriod),
@@ -12,7 +12,7 @@ pub enum Record {
 }
 
 // A record and its size in bytes, or the number of its refusal.
-#[derive(Drop)]
+#[derive(Clone, Copy)]
 pub enum Read {
     Good(Record, usize),
     Refused(u8),

@@ -1,5 +1,6 @@
 // Replays stored answers on the listing. A row of the input is its kind (0 the program's input and 1 a file, both of the table of refusals; 2 an
 // accepted file with the Rust's listing), the text that is due and the file, each behind its length, a u32.
+#![tactic(auto)]
 use libc::{STDIN_FILENO, STDOUT_FILENO};
 use listing::{Listed, list_file, list_input};
 use numbers::words::word_at;
@@ -7,19 +8,19 @@ use numbers::words::word_at;
 // Longer than any text or file of the rows.
 const SPACE: usize = 262144;
 
-#[derive(Drop)]
+#[derive(Clone, Copy)]
 enum Kind {
     Is(u64),
     End,
 }
 
-#[derive(Drop)]
+#[derive(Clone, Copy)]
 enum Length {
     Is(usize),
     Cut,
 }
 
-#[derive(Drop)]
+#[derive(Clone, Copy)]
 enum Outcome {
     Agree,
     Differ,
@@ -27,13 +28,13 @@ enum Outcome {
 }
 
 // How many rows of a sort there are, and how many of them agree.
-#[derive(Drop)]
+#[derive(Clone, Copy)]
 struct Tally {
     agree: u64,
     rows: u64,
 }
 
-#[derive(Drop)]
+#[derive(Clone, Copy)]
 struct Tallies {
     refusals: Tally,
     listings: Tally,

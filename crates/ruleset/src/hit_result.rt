@@ -2,7 +2,7 @@
 ghost use Rattle.std.specs.Prelude.{◌≡◌};
 ghost use Rattle.ruleset.specs.BaseScore.{base_score};
 
-#[derive(Drop)]
+#[derive(Clone, Copy)]
 pub enum HitResult {
     None,
     Miss,

@@ -16,20 +16,20 @@ use rules::refusal;
 use simulator::attributes::ScoreAttributes;
 
 // The score of the wanted play, or how many plays stand between it and what was read.
-#[derive(Drop)]
+#[derive(Clone, Copy)]
 pub enum Wanted {
     Ahead(u64),
     Is(PlayScore),
 }
 
 // Of a file whose plays are all good: its map, and the attributes of its first objects.
-#[derive(Drop)]
+#[derive(Clone, Copy)]
 pub enum Plays {
     Good(Map, ScoreAttributes),
     Refused { number: u8, offset: usize },
 }
 
-#[derive(Drop)]
+#[derive(Clone, Copy)]
 pub enum Checked {
     Good(Wanted),
     Refused { number: u8, offset: usize },

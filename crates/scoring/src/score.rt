@@ -11,13 +11,13 @@ use play_score::{GivenPlay, PlayScore, score_given};
 use play_state::Play;
 use simulator::attributes::ScoreAttributes;
 
-#[derive(Drop)]
+#[derive(Clone, Copy)]
 pub enum MapScore {
     Map(ScoreAttributes),
     Refused { number: u8, offset: usize },
 }
 
-#[derive(Drop)]
+#[derive(Clone, Copy)]
 pub enum ListedPlay {
     Score(PlayScore),
     NoPlay,

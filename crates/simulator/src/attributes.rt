@@ -11,7 +11,7 @@ use numbers::rounding::float;
 use spinner::StandardisedBonusScore;
 
 // What the estimates take.
-#[derive(Drop)]
+#[derive(Clone, Copy)]
 pub struct OsuDifficultyAttributes {
     pub max_combo: u32,
     pub n_circles: u32,
@@ -25,7 +25,7 @@ pub struct OsuDifficultyAttributes {
 }
 
 // All values of a map's first objects: the simulator's, and what the estimates take.
-#[derive(Drop)]
+#[derive(Clone, Copy)]
 pub struct ScoreAttributes {
     pub object_count: u64,
     pub multiplier: u64,
@@ -35,7 +35,7 @@ pub struct ScoreAttributes {
 }
 
 // What a map's passed objects give: their attributes, which are the Rust's, and beside these the most combo that one of them adds.
-#[derive(Drop)]
+#[derive(Clone, Copy)]
 pub struct PassedValues {
     pub attributes: ScoreAttributes,
     pub largest_gain: u64,

@@ -31,7 +31,7 @@ pub fn calculate_spinner_score(spinner: Spinner) -> u64
 }
 
 // The objects by kind, and what the nested score sums over them.
-#[derive(Drop)]
+#[derive(Clone, Copy)]
 pub struct NestedScorePerObject {
     pub object_count: u64,
     pub n_circles: u64,

@@ -12,7 +12,7 @@ use records::hit_object::{HitObjectKind, Slider, Spinner};
 use ruleset::hit_result::HitResult;
 use spinner::{LegacyBonusScore, StandardisedBonusScore};
 
-#[derive(Drop)]
+#[derive(Clone, Copy)]
 pub struct OsuLegacyScoreSimulator {
     pub combo: u64,
     pub accuracy_score: u64,
@@ -21,7 +21,7 @@ pub struct OsuLegacyScoreSimulator {
     pub standardised_bonus_score: StandardisedBonusScore,
 }
 
-#[derive(Drop)]
+#[derive(Clone, Copy)]
 pub struct LegacyScoreAttributes {
     pub accuracy_score: u64,
     pub combo_score: u64,

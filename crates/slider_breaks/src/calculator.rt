@@ -9,14 +9,14 @@ use numbers::rounding::float;
 use play_state::Play;
 
 // The Rust's `aim_top_weighted_slider_factor` and `speed_top_weighted_slider_factor`.
-#[derive(Drop)]
+#[derive(Clone, Copy)]
 pub struct SliderFactors {
     pub aim: f64,
     pub speed: f64,
 }
 
 // The Rust's `aim_estimated_slider_breaks` and `speed_estimated_slider_breaks`.
-#[derive(Drop)]
+#[derive(Clone, Copy)]
 pub struct SliderBreaks {
     pub aim: f64,
     pub speed: f64,

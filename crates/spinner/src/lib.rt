@@ -1,10 +1,11 @@
 // The bonus points of a spinner: its half spins are gone through one by one, in the public source's order.
+#![tactic(auto)]
 ghost use Rattle.std.specs.Prelude.{◌≡◌, suc, ◌<◌, ◌^◌};
 ghost use Rattle.spinner.specs.HalfSpins.{total_half_spins, required_half_spins};
 ghost use Rattle.spinner.specs.Bonus.{no_bonus, sums_before, legacy_of, standardised_of};
 
 // T and R: the half spins that the duration allows, and those that completing the spinner takes.
-#[derive(Drop)]
+#[derive(Clone, Copy)]
 pub struct HalfSpins {
     pub total: u64,
     pub required: u64,
@@ -21,13 +22,13 @@ pub fn half_spins(duration: f64) -> HalfSpins
 }
 
 // The two units of bonus points, which are never added to each other.
-#[derive(Drop)]
+#[derive(Clone, Copy)]
 pub struct LegacyBonusScore(pub u64);
 
-#[derive(Drop)]
+#[derive(Clone, Copy)]
 pub struct StandardisedBonusScore(pub u64);
 
-#[derive(Drop)]
+#[derive(Clone, Copy)]
 pub struct BonusScores {
     pub legacy: LegacyBonusScore,
     pub standardised: StandardisedBonusScore,

@@ -1,4 +1,5 @@
 // The square root of an f64, rounded once, and the power 2.5 that is made of it.
+#![tactic(auto)]
 ghost use Rattle.std.specs.Prelude.{◌≡◌, ◌+◌, ◌*◌, ◌^◌, ◌<◌, ◌≤◌};
 ghost use Rattle.square_root.specs.Roots.{rooted, root_of, power_of};
 
@@ -7,7 +8,7 @@ use numbers::rounding::cut;
 use std::num::nearest_u64_to_f64;
 
 // A whole root, and what its square leaves of the number.
-#[derive(Drop)]
+#[derive(Clone, Copy)]
 struct WholeRoot {
     root: u64,
     remainder: u64,
@@ -145,7 +146,7 @@ fn whole_root(m: u64) -> WholeRoot
 }
 
 // A number significand * 2 ^ exponent, with 53 digits in the significand.
-#[derive(Drop)]
+#[derive(Clone, Copy)]
 struct Normal {
     significand: u64,
     exponent: u64,

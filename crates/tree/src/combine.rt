@@ -7,7 +7,7 @@ use entries::entry::Entry;
 use rules::refusal;
 
 // An entry combined with one as read, or the number of what is out of its limits.
-#[derive(Drop)]
+#[derive(Clone, Copy)]
 pub enum Combined {
     Is(Entry),
     Refused(u8),

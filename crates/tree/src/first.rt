@@ -13,7 +13,7 @@ use entries::words::load;
 use rules::refusal;
 
 // Where a combination of the first places stands: the levels below, the entry to look at next, how many places it covers, how many are left.
-#[derive(Drop)]
+#[derive(Clone, Copy)]
 pub struct Prefix {
     pub left: usize,
     pub x: usize,
@@ -22,7 +22,7 @@ pub struct Prefix {
     pub sum: Entry,
 }
 
-#[derive(Drop)]
+#[derive(Clone, Copy)]
 pub enum Turned {
     Next(Prefix),
     Refused(u8),

@@ -13,7 +13,7 @@ use rules::refusal;
 // The levels of a board of the most objects.
 const MAX_LEVELS: usize = 13;
 
-#[derive(Drop)]
+#[derive(Clone, Copy)]
 pub enum Put {
     Done,
     Refused(u8),

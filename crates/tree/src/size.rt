@@ -4,7 +4,7 @@ ghost use Rattle.rules.specs.Limits.{max_levels, max_objects};
 ghost use Rattle.tree.specs.Size.{levels_of, cap_of};
 
 // The largest power of two that is not above a number.
-#[derive(Drop)]
+#[derive(Clone, Copy)]
 pub struct Width {
     pub level: u32,
     pub places: usize,
@@ -21,7 +21,7 @@ pub fn largest_width(n: usize) -> Width
     }
 }
 
-#[derive(Drop)]
+#[derive(Clone, Copy)]
 pub struct Size {
     pub levels: usize,
     pub cap: usize,

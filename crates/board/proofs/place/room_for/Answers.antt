@@ -1,0 +1,34 @@
+-- Each test is the definition's.
+use Prim.Native.Nat.{ℕ, ◌*◌}
+use mathlib.Core.Path.{◌≡◌, refl, sym, ap, ap₂, ◌∙◌, subst}
+use native.Mathlib.Omega.{arith}
+use Rattle.rules.proofs.Laws.{so}
+use Rattle.tree.specs.Size.{levels_of, cap_of}
+use Rattle.board.specs.Place.{room_of}
+use Rattle.board.specs.declared.place.Room.{Room}
+use Rattle.board.specs.declared.place.Room.TheVariants as room
+use Rattle.board.proofs.Rooms as rooms
+use Rattle.tree.specs.Size.{cap_of}
+use Rattle.tree.specs.declared.size.Size.{Size}
+use borrow.Author.Rules.{rules}
+use Rattle.board.proofs.place.room_for.Goals as goal
+
+pub returns-then-count : goal.returns-then-count
+returns-then-count c = sym (ap (room_of c.args.count) (rooms.many c.args.board.now c.args.starts.now c.args.count c.if-count.true))
+
+pub returns-then-board-size : goal.returns-then-board-size
+returns-then-board-size c =
+    let cap : c.size_of-size.result.cap ≡ cap_of c.args.count = c.size_of-size.ensures.1 in
+    sym (ap (room_of c.args.count) (rooms.few_words c.args.board.now c.args.starts.now c.args.count c.if-count.false (omega (arith, cap, c.if-board-size.true))))
+
+pub returns-then-starts-count : goal.returns-then-starts-count
+returns-then-starts-count c =
+    let cap : c.size_of-size.result.cap ≡ cap_of c.args.count = c.size_of-size.ensures.1 in
+    sym (ap (room_of c.args.count) (rooms.few-numbers c.args.board.now c.args.starts.now c.args.count c.if-count.false (omega (arith, cap, c.if-board-size.false)) c.if-starts-count.true))
+
+pub returns : goal.returns
+returns c =
+    let cap : c.size_of-size.result.cap ≡ cap_of c.args.count = c.size_of-size.ensures.1 in
+    let levels : c.size_of-size.result.levels ≡ levels_of c.args.count = c.size_of-size.ensures.0 in
+    ap₂ (λ (l (goal.at.returns c).Else-starts-count : ℕ). room.Is (record { levels = l; cap = (goal.at.returns c).Else-starts-count })) levels cap
+    ∙ sym (ap (room_of c.args.count) (rooms.roomy c.args.board.now c.args.starts.now c.args.count c.if-count.false (omega (arith, cap, c.if-board-size.false)) c.if-starts-count.false))

@@ -1,0 +1,14 @@
+-- Absent with slider accuracy; else the calculator's answer.
+use Rattle.estimates.specs.Effective.{score_based_for}
+use borrow.Author.Tests.{not-true, not-false}
+use Rattle.rules.proofs.Laws.{so}
+use borrow.Author.Rules.{rules}
+use Rattle.estimates.proofs.calculator.score_based.Goals as goal
+
+pub returns-then-not-is_classic : goal.returns-then-not-is_classic
+unfolding score_based_for
+returns-then-not-is_classic c = simp (so c.is_classic.ensures (not-true _ c.if-not-is_classic.true))
+
+pub returns : goal.returns
+unfolding score_based_for
+returns c = simp (so c.is_classic.ensures (not-false _ c.if-not-is_classic.false)) c.calculate.ensures

@@ -1,0 +1,11 @@
+-- `lines::put_number` is right since the digits stand behind the space. Assumes nothing.
+use borrow.Author.Rules.{rules}
+use Rattle.text.proofs.Space.{first, next}
+use Rattle.lines.specs.Lines.{number_field}
+use Rattle.lines.proofs.put_number.Goals as goal
+
+pub returns : goal.returns
+unfolding number_field
+returns c =
+    let w = next (first c.args.space.now c.args.at _ c.put_text-at.ensures) _ c.put_decimal.ensures in
+    record { value = w.place; space_after = w.space }

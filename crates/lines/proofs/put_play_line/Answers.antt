@@ -1,0 +1,17 @@
+-- `lines::put_play_line` is right since it writes the pieces of the line one behind the other. Assumes nothing.
+use borrow.Author.Rules.{rules}
+use Rattle.text.proofs.Space.{first, next}
+use Rattle.lines.specs.Lines.{play_line}
+use Rattle.lines.proofs.put_play_line.Goals as goal
+
+pub returns : goal.returns
+unfolding play_line
+returns c =
+    let written1 = first c.args.space.now c.args.at _ c.put_text-at.ensures in
+    let written2 = next written1 _ c.put_number-at.ensures in
+    let written3 = next written2 _ c.put_bits-at.ensures in
+    let written4 = next written3 _ c.put_bits-at-2.ensures in
+    let written5 = next written4 _ c.put_score_based-at.ensures in
+    let written6 = next written5 _ c.put_bits-at-3.ensures in
+    let written7 = next written6 _ c.end_line.ensures in
+    record { value = written7.place; space_after = written7.space }

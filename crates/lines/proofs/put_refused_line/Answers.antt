@@ -1,0 +1,15 @@
+-- `lines::put_refused_line` is right since it writes the pieces of the line one behind the other. Assumes nothing.
+use borrow.Author.Rules.{rules}
+use Rattle.text.proofs.Space.{first, next}
+use Rattle.lines.specs.Lines.{refused_line}
+use Rattle.lines.proofs.put_refused_line.Goals as goal
+
+pub returns : goal.returns
+unfolding refused_line
+returns c =
+    let written1 = first c.args.space.now c.args.at _ c.put_text-at.ensures in
+    let written2 = next written1 _ c.put_number-at.ensures in
+    let written3 = next written2 _ c.put_text-at-2.ensures in
+    let written4 = next written3 _ c.put_number-at-2.ensures in
+    let written5 = next written4 _ c.end_line.ensures in
+    record { value = written5.place; space_after = written5.space }

@@ -1,0 +1,10 @@
+-- The status of what the call answers, with what it leaves in the lent slices.
+use mathlib.Core.Path.{ap, ◌∙◌}
+use Rattle.host.specs.Status.{status_left}
+use Rattle.host.specs.declared.status.Status.{Status}
+use borrow.Author.Rules.{rules}
+use Rattle.popejoanplum.proofs.pjp_build.Goals as goal
+
+pub returns : goal.returns
+returns c =
+    ap (λ (s : Status). (s, c.build.new.1.0, c.build.new.1.1.0)) c.status_of.ensures ∙ ap status_left c.build.ensures

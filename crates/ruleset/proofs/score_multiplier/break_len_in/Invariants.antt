@@ -1,0 +1,21 @@
+-- What is counted and the break records that are left make up the whole.
+use Rattle.std.proofs.Common.{◌≡◌, ◌+◌, ◌-◌, ◌*◌, ◌^◌, ◌≤◌, ℤ, ◌+ℤ◌, sym, refl, ap, ◌∙◌, arith, w64, to_z}
+use lib.IntN.{+ℤ_idl}
+use lib.Signed.{mag}
+use Rattle.ruleset.specs.Drain.{breaks_length, length_of, breaks_from, breaks_in}
+use Rattle.ruleset.proofs.Signs.{kept}
+use Rattle.ruleset.proofs.Breaks.{goes_on, stops, no_more, record_at, records_end}
+use native.Mathlib.Nat.{sub-zero}
+use Rattle.numbers.specs.Words.{word_at}
+use lib.Ieee.{Float, binary64, lt, of_bits}
+use Rattle.ruleset.proofs.score_multiplier.break_len_in.Given as goal
+
+abbrev pub invariant-loop-i : goal.invariant-loop-i
+invariant-loop-i l =
+    (l.i ≤ l.count)
+    × (l.at ≡ 14 + 18 * l.i)
+    × (to_z w64 l.total +ℤ breaks_length l.last_start (breaks_from l.s l.at (l.count - l.i)) ≡ breaks_length l.last_start (breaks_in l.s l.count))
+    × (mag (to_z w64 l.total) ≤ l.i * 2 ^ 34)
+
+abbrev pub decreases-loop-i : goal.decreases-loop-i
+decreases-loop-i l = l.count - l.i

@@ -1,0 +1,10 @@
+-- `text::digits::put_decimal` is right since the digits of `io::decimal`, the fewest that hold the number, are its decimal digits. Assumes nothing.
+use mathlib.Core.Path.{sym, ◌∙◌}
+use Rattle.text.proofs.Numbers.{fewest_decimal}
+use borrow.Author.Rules.{rules}
+use Rattle.text.proofs.digits.put_decimal.Goals as goal
+
+pub returns : goal.returns
+returns c =
+    let same = fewest_decimal c.decimal-count.result c.args.n c.decimal-count.ensures.1.0 ∙ sym c.decimal-count.ensures.1.1 in
+    record { value = rw same c.put_text.ensures.value; space_after = rw same c.put_text.ensures.space_after }

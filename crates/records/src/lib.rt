@@ -1,5 +1,6 @@
 // One record of document 01's map file: its fields and their ranges, and what it is refused for.
 #![tactic(auto)]
+
 pub mod beatmap; // settings and breaks
 pub mod fields; // floats of a record and their ranges
 pub mod hit_object; // circles, sliders, spinners

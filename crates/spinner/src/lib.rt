@@ -1,5 +1,6 @@
 // The bonus points of a spinner: its half spins are gone through one by one, in the public source's order.
 #![tactic(auto)]
+
 ghost use Rattle.std.specs.Prelude.{◌≡◌, suc, ◌<◌, ◌^◌};
 ghost use Rattle.spinner.specs.HalfSpins.{total_half_spins, required_half_spins};
 ghost use Rattle.spinner.specs.Bonus.{no_bonus, sums_before, legacy_of, standardised_of};

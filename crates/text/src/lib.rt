@@ -1,6 +1,7 @@
 // Text written into a lent space, piece by piece. Each function takes the place where its piece starts and answers the place behind it; what does
 // not fit is left out. All are total, and their contracts name the definitions of specs/.
 #![tactic(auto)]
+
 mod digits;
 mod pieces;
 

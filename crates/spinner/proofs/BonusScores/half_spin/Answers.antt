@@ -9,6 +9,7 @@ use borrow.Author.Tests.{lt-ltb}
 use Rattle.spinner.specs.Bonus.{is_large, is_small, half_spin_points, sums_before}
 use Rattle.spinner.specs.declared.BonusScores.{BonusScores}
 use Rattle.spinner.proofs.Walks.{next_large, next_small, next_none, points_most, large_not, small_not}
+use Rattle.std.proofs.lemmas.Bool.{ne_eqb, eq-eqb}
 use Rattle.spinner.proofs.BonusScores.half_spin.Goals as goal
 use Rattle.spinner.proofs.BonusScores.half_spin.Goals.{Joined-else-before-i}
 
@@ -37,8 +38,8 @@ module _ (b i : ℕ) (x : BonusScores) (e : x ≡ sums_before b i) where
 -- where the large bonus is not earned
 not_large : (c : Joined-else-before-i) → is_large c.args.before c.args.i ≡ false
 not_large c = large_not c.args.before c.args.i (elim c.else-before-i.branch [
-  | inl x ↦ inl (x.0.taken, x.1.left)
-  | inr x ↦ inr x.left
+  | goal.else-before-i-via-then-before-i+else-i-before-eq0 w ↦ inl (w.if-before-i.true, ne_eqb _ 0 w.if-i-before-eq0.false)
+  | goal.else-before-i-via-else-before-i w ↦ inr w.if-before-i.false
 ])
 
 pub overflow_add-result : goal.overflow_add-result
@@ -75,5 +76,8 @@ returns-then-i-eq0 c =
 pub returns : goal.returns
 returns c =
     let large = not_large (goal.at.returns c).Joined-else-before-i in
-    let small = small_not c.args.i (elim c.else-i-gt1.branch [ inl x ↦ inl (x.0.taken, x.1.left) | inr x ↦ inr x.left ]) in
+    let small = small_not c.args.i (elim c.else-i-gt1.branch [
+      | goal.else-i-gt1-via-then-i-gt1+else-i-eq0 w ↦ inl (w.if-i-gt1.true, ne_eqb _ 0 w.if-i-eq0.false)
+      | goal.else-i-gt1-via-else-i-gt1 w ↦ inr w.if-i-gt1.false
+    ]) in
     same c.args.before c.args.i c.args.self c.requires.0 (next_none 1100 100 c.args.before c.args.i large small) (next_none 50 10 c.args.before c.args.i large small)

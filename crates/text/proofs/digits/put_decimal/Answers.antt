@@ -6,5 +6,5 @@ use Rattle.text.proofs.digits.put_decimal.Goals as goal
 
 pub returns : goal.returns
 returns c =
-    let same = fewest_decimal c.decimal-count.result c.args.n c.decimal-count.ensures.1.0 ∙ sym c.decimal-count.ensures.1.1 in
+    let same = fewest_decimal c.decimal-count.result c.args.n c.decimal-count.ensures.len ∙ sym c.decimal-count.ensures.digits in
     record { value = rw same c.put_text.ensures.value; space_after = rw same c.put_text.ensures.space_after }

@@ -6,5 +6,5 @@ use Rattle.text.proofs.digits.put_hex.Goals as goal
 
 pub returns : goal.returns
 returns c =
-    let same = fewest_hex c.hex-count.result c.args.n (search rules) c.hex-count.ensures.1.0 ∙ sym c.hex-count.ensures.1.1 in
+    let same = fewest_hex c.hex-count.result c.args.n (search rules) c.hex-count.ensures.len ∙ sym c.hex-count.ensures.digits in
     record { value = rw same c.put_text.ensures.value; space_after = rw same c.put_text.ensures.space_after }

@@ -23,7 +23,7 @@ pub returns-then-not-is_time : goal.returns-then-not-is_time
 returns-then-not-is_time c =
     let l = c.args.times.now in
     let i = c.loop-i.i in
-    sym (sym c.loop-i.invariant.1 ∙ times-at l i (omega arith) ∙ ap (λ (t : Bool). t || times_bad (drop (i + 1) l)) (ap not (so c.is_time.ensures (not-true _ c.if-not-is_time.true))))
+    sym (sym c.loop-i.invariant.1 ∙ times-at l i (omega arith) ∙ ap (λ (t : Bool). t || times_bad (drop (i + 1) l)) (ap not (so c.is_time.ensures c.if-not-is_time.true)))
 
 pub overflow_add-i : goal.overflow_add-i
 overflow_add-i c = omega arith
@@ -36,7 +36,7 @@ loop-i-preserved c =
     let l = c.args.times.now in
     let i = c.loop-i.i in (
       omega arith,
-      sym (times-at l i (omega arith) ∙ ap (λ (t : Bool). t || times_bad (drop (i + 1) l)) (ap not (so c.is_time.ensures (not-false _ c.if-not-is_time.false)))) ∙ c.loop-i.invariant.1,
+      sym (times-at l i (omega arith) ∙ ap (λ (t : Bool). t || times_bad (drop (i + 1) l)) (ap not (so c.is_time.ensures c.if-not-is_time.false))) ∙ c.loop-i.invariant.1,
     )
 
 pub returns : goal.returns

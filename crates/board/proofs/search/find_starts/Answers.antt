@@ -15,14 +15,14 @@ returns-then-count-eq0 c = simp (eq-eqb _ _ c.if-count-eq0.true)
 
 pub returns-then-not-is_time : goal.returns-then-not-is_time
 unfolding starts_in ◌>>◌ refuse◌when◌
-returns-then-not-is_time c = simp (ne_eqb _ _ c.if-count-eq0.false, so c.is_time.ensures (not-true _ c.if-not-is_time.true))
+returns-then-not-is_time c = simp (ne_eqb _ _ c.if-count-eq0.false, so c.is_time.ensures c.if-not-is_time.true)
 
 pub returns-then-not-is_time-2 : goal.returns-then-not-is_time-2
 unfolding starts_in ◌>>◌ refuse◌when◌
 returns-then-not-is_time-2 c =
-    simp (ne_eqb _ _ c.if-count-eq0.false, so c.is_time.ensures (not-false _ c.if-not-is_time.false), sym c.last_place.ensures, so c.is_time-2.ensures (not-true _ c.if-not-is_time-2.true))
+    simp (ne_eqb _ _ c.if-count-eq0.false, so c.is_time.ensures c.if-not-is_time.false, sym c.last_place.ensures, so c.is_time-2.ensures c.if-not-is_time-2.true)
 
 pub returns : goal.returns
 unfolding starts_in ◌>>◌ refuse◌when◌
 returns c =
-    simp (ne_eqb _ _ c.if-count-eq0.false, so c.is_time.ensures (not-false _ c.if-not-is_time.false), sym c.last_place.ensures, so c.is_time-2.ensures (not-false _ c.if-not-is_time-2.false))
+    simp (ne_eqb _ _ c.if-count-eq0.false, so c.is_time.ensures c.if-not-is_time.false, sym c.last_place.ensures, so c.is_time-2.ensures c.if-not-is_time-2.false)

@@ -7,8 +7,8 @@ use Rattle.estimates.proofs.calculator.score_based.Goals as goal
 
 pub returns-then-not-is_classic : goal.returns-then-not-is_classic
 unfolding score_based_for
-returns-then-not-is_classic c = simp (so c.is_classic.ensures (not-true _ c.if-not-is_classic.true))
+returns-then-not-is_classic c = simp (so c.is_classic.ensures c.if-not-is_classic.true)
 
 pub returns : goal.returns
 unfolding score_based_for
-returns c = simp (so c.is_classic.ensures (not-false _ c.if-not-is_classic.false)) c.calculate.ensures
+returns c = simp (so c.is_classic.ensures c.if-not-is_classic.false) c.calculate.ensures

@@ -19,7 +19,7 @@ returns-then-not-in_order c =
       le-ltb _ _ c.if-r-lt2.false,
       sym c.word_at-mark.ensures.0,
       sym c.rank_of-rank.ensures,
-      so c.in_order.ensures (not-true _ c.if-not-in_order.true),
+      so c.in_order.ensures c.if-not-in_order.true,
     )
 
 pub returns-then-is_full : goal.returns-then-is_full
@@ -29,7 +29,7 @@ returns-then-is_full c =
       le-ltb _ _ c.if-r-lt2.false,
       sym c.word_at-mark.ensures.0,
       sym c.rank_of-rank.ensures,
-      so c.in_order.ensures (not-false _ c.if-not-in_order.false),
+      so c.in_order.ensures c.if-not-in_order.false,
       so c.is_full.ensures c.if-is_full.true,
     )
 
@@ -40,7 +40,7 @@ returns-then-is_over_bonus c =
       le-ltb _ _ c.if-r-lt2.false,
       sym c.word_at-mark.ensures.0,
       sym c.rank_of-rank.ensures,
-      so c.in_order.ensures (not-false _ c.if-not-in_order.false),
+      so c.in_order.ensures c.if-not-in_order.false,
       so c.is_full.ensures c.if-is_full.false,
     )
     (held_over c.args.c (body_of c.args.r.now c.word_at-mark.result) _ _ _ (so c.in-Good.is c.read_body.ensures) c.bonus_of.ensures (so c.is_over_bonus.ensures c.if-is_over_bonus.true))
@@ -52,7 +52,7 @@ returns-in-Refused c =
       le-ltb _ _ c.if-r-lt2.false,
       sym c.word_at-mark.ensures.0,
       sym c.rank_of-rank.ensures,
-      so c.in_order.ensures (not-false _ c.if-not-in_order.false),
+      so c.in_order.ensures c.if-not-in_order.false,
       so c.is_full.ensures c.if-is_full.false,
     )
     (held_refused c.args.c (body_of c.args.r.now c.word_at-mark.result) _ (so c.in-Refused.is c.read_body.ensures))
@@ -64,7 +64,7 @@ returns-else-is_over_bonus c =
       le-ltb _ _ c.if-r-lt2.false,
       sym c.word_at-mark.ensures.0,
       sym c.rank_of-rank.ensures,
-      so c.in_order.ensures (not-false _ c.if-not-in_order.false),
+      so c.in_order.ensures c.if-not-in_order.false,
       so c.is_full.ensures c.if-is_full.false,
     )
     (held_good c.args.c (body_of c.args.r.now c.word_at-mark.result) _ _ _ (so c.in-Good.is c.read_body.ensures) c.bonus_of.ensures (so c.is_over_bonus.ensures c.if-is_over_bonus.false))

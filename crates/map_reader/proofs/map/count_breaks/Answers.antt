@@ -20,7 +20,7 @@ pub returns-then-not-is_break : goal.returns-then-not-is_break
 returns-then-not-is_break c =
     let s = c.args.s.now in
     let here = c.is_break.ensures ∙ ap (λ (n : ℕ). is_break (drop n s)) c.objects_from.ensures in
-    (sym (breaks_stop s c.loop-count.count (so here (not-true _ c.if-not-is_break.true))) ∙ c.loop-count.invariant.0, c.loop-count.invariant.1)
+    (sym (breaks_stop s c.loop-count.count (so here c.if-not-is_break.true)) ∙ c.loop-count.invariant.0, c.loop-count.invariant.1)
 
 pub loop-count-smaller : goal.loop-count-smaller
 loop-count-smaller c = let h = c.loop-count-test.true in omega (arith, h)
@@ -30,7 +30,7 @@ loop-count-preserved c =
     let s = c.args.s.now in
     let here = c.is_break.ensures ∙ ap (λ (n : ℕ). is_break (drop n s)) c.objects_from.ensures in
     let h = c.loop-count-test.true in
-    (sym (breaks_next s c.loop-count.count h (so here (not-false _ c.if-not-is_break.false))) ∙ c.loop-count.invariant.0, omega (arith, h))
+    (sym (breaks_next s c.loop-count.count h (so here c.if-not-is_break.false)) ∙ c.loop-count.invariant.0, omega (arith, h))
 
 pub returns : goal.returns
 returns c =

@@ -11,12 +11,12 @@ use Rattle.tree.proofs.combine.after.Goals as goal
 
 pub returns-then-not-within : goal.returns-then-not-within
 unfolding after_of ◌>>◌ refuse◌when◌
-returns-then-not-within c = simp (so c.within.ensures (not-true _ c.if-not-within.true))
+returns-then-not-within c = simp (so c.within.ensures c.if-not-within.true)
 
 pub join-requires : goal.join-requires
-join-requires c = (sum_of-one _ c.requires, so c.within.ensures (not-false _ c.if-not-within.false))
+join-requires c = (sum_of-one _ c.requires, so c.within.ensures c.if-not-within.false)
 
 pub returns : goal.returns
 unfolding after_of ◌>>◌ refuse◌when◌
 returns c =
-    simp (so c.within.ensures (not-false _ c.if-not-within.false)) (c.limit.ensures ∙ ap (λ (x : Entry). combined_of (limited x)) c.join.ensures)
+    simp (so c.within.ensures c.if-not-within.false) (c.limit.ensures ∙ ap (λ (x : Entry). combined_of (limited x)) c.join.ensures)

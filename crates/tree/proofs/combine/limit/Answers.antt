@@ -10,14 +10,14 @@ use Rattle.tree.proofs.combine.limit.Goals as goal
 
 pub returns-then-not-within : goal.returns-then-not-within
 unfolding limited ◌>>◌ refuse◌when◌
-returns-then-not-within c = simp (so (c.within.ensures ∙ ap in_limits c.without_legacy.ensures) (not-true _ c.if-not-within.true))
+returns-then-not-within c = simp (so (c.within.ensures ∙ ap in_limits c.without_legacy.ensures) c.if-not-within.true)
 
 pub returns-then-e-gt-MAX_SCORE : goal.returns-then-e-gt-MAX_SCORE
 unfolding limited ◌>>◌ refuse◌when◌
 returns-then-e-gt-MAX_SCORE c =
-    simp (so (c.within.ensures ∙ ap in_limits c.without_legacy.ensures) (not-false _ c.if-not-within.false), lt-ltb _ _ c.if-e-gt-MAX_SCORE.true)
+    simp (so (c.within.ensures ∙ ap in_limits c.without_legacy.ensures) c.if-not-within.false, lt-ltb _ _ c.if-e-gt-MAX_SCORE.true)
 
 pub returns : goal.returns
 unfolding limited ◌>>◌ refuse◌when◌
 returns c =
-    simp (so (c.within.ensures ∙ ap in_limits c.without_legacy.ensures) (not-false _ c.if-not-within.false), le-ltb _ _ c.if-e-gt-MAX_SCORE.false)
+    simp (so (c.within.ensures ∙ ap in_limits c.without_legacy.ensures) c.if-not-within.false, le-ltb _ _ c.if-e-gt-MAX_SCORE.false)

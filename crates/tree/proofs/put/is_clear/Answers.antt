@@ -36,7 +36,7 @@ pub returns-then-not-within : goal.returns-then-not-within
 returns-then-not-within c = λ h. absurd (false≢true h)
 
 fits_read : (c : Else-not-within) → in_limits c.load-read.result ≡ true
-fits_read c = so c.within.ensures (not-false _ c.if-not-within.false)
+fits_read c = so c.within.ensures c.if-not-within.false
 
 pub joined_at-sum-requires : goal.joined_at-sum-requires
 joined_at-sum-requires c =

@@ -32,7 +32,7 @@ add_break-total-requires c = omega (arith, c.loop-i.invariant.2)
 
 pub returns-else-end-last_start : goal.returns-else-end-last_start
 returns-else-end-last_start c =
-    (stops c.args.last_start (to_z w64 c.loop-i.total) _ _ _ _ (pair_at c.args.breaks.now c.loop-i.i (omega arith)) c.if-end-last_start.false ∙ c.loop-i.invariant.1, omega (arith, c.loop-i.invariant.2))
+    (stops c.args.last_start (to_z w64 c.loop-i.total-bits) _ _ _ _ (pair_at c.args.breaks.now c.loop-i.i (omega arith)) c.if-end-last_start.false ∙ c.loop-i.invariant.1, omega (arith, c.loop-i.invariant.2))
 
 pub overflow_add-i-in-loop-i : goal.overflow_add-i-in-loop-i
 overflow_add-i-in-loop-i c = omega arith
@@ -43,7 +43,7 @@ loop-i-smaller c = omega arith
 pub loop-i-preserved : goal.loop-i-preserved
 loop-i-preserved c =
     let e = kept c.add_break-total.result (omega arith) in
-    let on = goes_on c.args.last_start (to_z w64 c.loop-i.total) _ _ _ _ (pair_at c.args.breaks.now c.loop-i.i (omega arith)) c.if-end-last_start.true in (
+    let on = goes_on c.args.last_start (to_z w64 c.loop-i.total-bits) _ _ _ _ (pair_at c.args.breaks.now c.loop-i.i (omega arith)) c.if-end-last_start.true in (
       omega arith,
       ap (λ (x : ℤ). x +ℤ breaks_length c.args.last_start (breaks_of (drop (c.loop-i.i + 2) c.args.breaks.now))) (e ∙ c.add_break-total.ensures.0) ∙ on ∙ c.loop-i.invariant.1,
       rw e (omega (arith, c.loop-i.invariant.2)),
@@ -51,4 +51,4 @@ loop-i-preserved c =
 
 pub returns : goal.returns
 returns c =
-    (no_more c.args.last_start (to_z w64 c.loop-i.total) _ (pairs_end c.args.breaks.now c.loop-i.i (omega arith)) ∙ c.loop-i.invariant.1, omega (arith, c.loop-i.invariant.2))
+    (no_more c.args.last_start (to_z w64 c.loop-i.total-bits) _ (pairs_end c.args.breaks.now c.loop-i.i (omega arith)) ∙ c.loop-i.invariant.1, omega (arith, c.loop-i.invariant.2))

@@ -8,7 +8,7 @@ use Rattle.ruleset.proofs.Breaks.{goes_on, stops, no_more, pair_at, pairs_end}
 use Rattle.ruleset.proofs.score_multiplier.break_len.Given as goal
 
 abbrev pub invariant-loop-i : goal.invariant-loop-i
-invariant-loop-i l = (l.i ≤ length l.breaks) × (to_z w64 l.total +ℤ breaks_length l.last_start (breaks_of (drop l.i l.breaks)) ≡ breaks_length l.last_start (breaks_of l.breaks)) × (mag (to_z w64 l.total) ≤ l.i * 2 ^ 33)
+invariant-loop-i l = (l.i ≤ length l.breaks) × (l.total +ℤ breaks_length l.last_start (breaks_of (drop l.i l.breaks)) ≡ breaks_length l.last_start (breaks_of l.breaks)) × (mag l.total ≤ l.i * 2 ^ 33)
 
 abbrev pub decreases-loop-i : goal.decreases-loop-i
 decreases-loop-i l = length l.breaks - l.i

@@ -35,7 +35,7 @@ add_break-total-requires c = omega (arith, c.loop-i.invariant.3)
 
 pub returns-else-end-last_start : goal.returns-else-end-last_start
 returns-else-end-last_start c =
-    (stops c.args.last_start (to_z w64 c.loop-i.total) _ _ _ _ (record_at c.args.s.now c.loop-i.at c.args.count c.loop-i.i (omega arith)) (sym (ap (λ (x : Float). lt x c.args.last_start) (c.f64_from_bits-end.ensures ∙ ap (of_bits binary64) c.word_at-in-loop-i.ensures.0)) ∙ c.if-end-last_start.false) ∙ c.loop-i.invariant.2, omega (arith, c.loop-i.invariant.3))
+    (stops c.args.last_start (to_z w64 c.loop-i.total-bits) _ _ _ _ (record_at c.args.s.now c.loop-i.at c.args.count c.loop-i.i (omega arith)) (sym (ap (λ (x : Float). lt x c.args.last_start) (c.f64_from_bits-end.ensures ∙ ap (of_bits binary64) c.word_at-in-loop-i.ensures.0)) ∙ c.if-end-last_start.false) ∙ c.loop-i.invariant.2, omega (arith, c.loop-i.invariant.3))
 
 pub overflow_add-at-in-loop-i-2 : goal.overflow_add-at-in-loop-i-2
 overflow_add-at-in-loop-i-2 c = omega arith
@@ -49,14 +49,14 @@ loop-i-smaller c = omega arith
 pub loop-i-preserved : goal.loop-i-preserved
 loop-i-preserved c =
     let e = kept c.add_break-total.result (omega arith) in
-    let on = goes_on c.args.last_start (to_z w64 c.loop-i.total) _ _ _ _ (record_at c.args.s.now c.loop-i.at c.args.count c.loop-i.i (omega arith)) (sym (ap (λ (x : Float). lt x c.args.last_start) (c.f64_from_bits-end.ensures ∙ ap (of_bits binary64) c.word_at-in-loop-i.ensures.0)) ∙ c.if-end-last_start.true) in (
+    let on = goes_on c.args.last_start (to_z w64 c.loop-i.total-bits) _ _ _ _ (record_at c.args.s.now c.loop-i.at c.args.count c.loop-i.i (omega arith)) (sym (ap (λ (x : Float). lt x c.args.last_start) (c.f64_from_bits-end.ensures ∙ ap (of_bits binary64) c.word_at-in-loop-i.ensures.0)) ∙ c.if-end-last_start.true) in (
       omega arith,
       omega arith,
       ap (λ (x : ℤ). x +ℤ breaks_length c.args.last_start (breaks_from c.args.s.now (c.loop-i.at + 18) (c.args.count - (c.loop-i.i + 1))))
           (e
           ∙ c.add_break-total.ensures.0
-          ∙ ap (λ (x : Float). (to_z w64 c.loop-i.total) +ℤ length_of x c.f64_from_bits-end.result) (c.f64_from_bits-start.ensures ∙ ap (of_bits binary64) c.word_at.ensures.0)
-          ∙ ap (λ (x : Float). (to_z w64 c.loop-i.total) +ℤ length_of (of_bits binary64 (word_at c.args.s.now (c.loop-i.at + 2) 8)) x) (c.f64_from_bits-end.ensures ∙ ap (of_bits binary64) c.word_at-in-loop-i.ensures.0))
+          ∙ ap (λ (x : Float). (to_z w64 c.loop-i.total-bits) +ℤ length_of x c.f64_from_bits-end.result) (c.f64_from_bits-start.ensures ∙ ap (of_bits binary64) c.word_at.ensures.0)
+          ∙ ap (λ (x : Float). (to_z w64 c.loop-i.total-bits) +ℤ length_of (of_bits binary64 (word_at c.args.s.now (c.loop-i.at + 2) 8)) x) (c.f64_from_bits-end.ensures ∙ ap (of_bits binary64) c.word_at-in-loop-i.ensures.0))
           ∙ on
           ∙ c.loop-i.invariant.2,
       rw e (omega (arith, c.loop-i.invariant.3)),
@@ -64,4 +64,4 @@ loop-i-preserved c =
 
 pub returns : goal.returns
 returns c =
-    (no_more c.args.last_start (to_z w64 c.loop-i.total) _ (records_end c.args.s.now c.loop-i.at c.args.count c.loop-i.i (omega arith)) ∙ c.loop-i.invariant.2, omega (arith, c.loop-i.invariant.3))
+    (no_more c.args.last_start (to_z w64 c.loop-i.total-bits) _ (records_end c.args.s.now c.loop-i.at c.args.count c.loop-i.i (omega arith)) ∙ c.loop-i.invariant.2, omega (arith, c.loop-i.invariant.3))

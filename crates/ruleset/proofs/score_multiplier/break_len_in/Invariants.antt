@@ -14,8 +14,8 @@ abbrev pub invariant-loop-i : goal.invariant-loop-i
 invariant-loop-i l =
     (l.i ≤ l.count)
     × (l.at ≡ 14 + 18 * l.i)
-    × (to_z w64 l.total +ℤ breaks_length l.last_start (breaks_from l.s l.at (l.count - l.i)) ≡ breaks_length l.last_start (breaks_in l.s l.count))
-    × (mag (to_z w64 l.total) ≤ l.i * 2 ^ 34)
+    × (l.total +ℤ breaks_length l.last_start (breaks_from l.s l.at (l.count - l.i)) ≡ breaks_length l.last_start (breaks_in l.s l.count))
+    × (mag l.total ≤ l.i * 2 ^ 34)
 
 abbrev pub decreases-loop-i : goal.decreases-loop-i
 decreases-loop-i l = l.count - l.i

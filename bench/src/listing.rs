@@ -6,8 +6,8 @@ use std::{
     process::{Command, Stdio},
 };
 
-/// Where `rt check list` puts it.
-const PROGRAM: &str = concat!(env!("CARGO_MANIFEST_DIR"), "/../target/bin/list");
+/// Where `rt run` in crates/list leaves it.
+const PROGRAM: &str = concat!(env!("CARGO_MANIFEST_DIR"), "/../crates/list/out/list");
 
 /// The most bytes that it takes.
 pub const MAX_INPUT: usize = 65_536;

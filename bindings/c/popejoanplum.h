@@ -1,5 +1,5 @@
-/* Popejoanplum: the score engine for hosts in C and C++ on x86-64 Linux. Link libpopejoanplum.a, which `rt staticlib popejoanplum` writes; of the C
- * library it takes memcpy and memset, and nothing else.
+/* Popejoanplum: the score engine for hosts in C and C++ on x86-64 Linux. Link libpopejoanplum.a, which `rt lib` in crates/popejoanplum writes into
+ * its out/; of the C library it takes memcpy and memset, and nothing else.
  *
  * Every function of the archive is proved: it ends, reads and writes nothing outside the memory that is lent to it, and gives the value that its
  * definition says (crates/popejoanplum). That holds for every byte, number and length that a caller passes, a board that no build made included.

@@ -1,4 +1,4 @@
-//! Links the archive of the proved functions, which `rt staticlib popejoanplum` writes.
+//! Links the archive of the proved functions, which `rt lib` in crates/popejoanplum writes.
 
 use std::{env, path::Path, process::ExitCode};
 
@@ -11,14 +11,14 @@ fn main() -> ExitCode {
         eprintln!("popejoanplum: cargo runs this script and sets CARGO_MANIFEST_DIR");
         return ExitCode::FAILURE;
     };
-    let given = env::var("POPEJOANPLUM_LIB_DIR").unwrap_or("target/staticlib".into());
+    let given = env::var("POPEJOANPLUM_LIB_DIR").unwrap_or("crates/popejoanplum/out".into());
     let folder = Path::new(&manifest).join("../..").join(given);
     let archive = folder.join(ARCHIVE);
     println!("cargo:rerun-if-changed={}", archive.display());
     if !archive.is_file() {
         eprintln!(
-            "popejoanplum: there is no {}. `rt staticlib popejoanplum`, run at the root of the repository, \
-             makes it; POPEJOANPLUM_LIB_DIR names another folder (a relative one counts from that root).",
+            "popejoanplum: there is no {}. `rt lib`, run in crates/popejoanplum, makes it; POPEJOANPLUM_LIB_DIR \
+             names another folder (a relative one counts from the root of the repository).",
             archive.display()
         );
         return ExitCode::FAILURE;

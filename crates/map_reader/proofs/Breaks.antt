@@ -68,6 +68,9 @@ break_read r e = go (break_of r) refl (break_only r) (and_right (eqb (word_at r 
 
     by_content : (x : Content) (n : ℕ) → BreakOnly r x n → break_of r ≡ good (x, n) → BreakRead r
     by_content (break b) n (only h) q = record { b = b; mark = mark_is; found = q; long = h }
+    by_content (header _) n x4 q = elim x4 [ ]
+    by_content (object _) n x5 q = elim x5 [ ]
+    by_content (play _) n x6 q = elim x6 [ ]
 
     go : (x : FoundRecord) → break_of r ≡ x → All (λ f. BreakOnly r f.0 f.1) x → is_good x ≡ true → BreakRead r
     go (refused n) q a h = never (cc)

@@ -13,7 +13,7 @@ use Rattle.rules.specs.Refusals.{good, refused, pick}
 use Rattle.rules.proofs.All.{All, none as nothing, that, all_any, all_when, all_pick, all_out}
 use Rattle.rules.proofs.Laws.{never}
 use Rattle.records.specs.Objects.{Object, Kind, circle, slider, spinner, kind_view, kind_bonus}
-use Rattle.records.specs.Records.{Content, object, FoundRecord, CI, SL, SP, circle_of, slider_of, spinner_of, object_of}
+use Rattle.records.specs.Records.{Content, object, FoundRecord, CI, SL, SP, circle_of, slider_of, spinner_of, object_of, break, header, play}
 use Rattle.map_file.proofs.Sizes.{Sized, object_sized}
 use Rattle.simulator.specs.Limits.{Within, Counted, nested_count}
 use Rattle.simulator.proofs.Bounds.{fresh-within, within_more, step_within, none-counted, counted_more, step_counted}
@@ -115,6 +115,9 @@ module _ (w : Bool) (s : List ℕ) (x : Objects) (h : x.at + circle_size ≤ len
 
   with_content : (y : Content) (n : ℕ) → OnlyObject y → object_at s x ≡ good (y, n) → Answered w s x (stepped_with w x y n)
   with_content (object o) n only e = with_bonus o n e (ltb max_bonus (bonus_of x + kind_bonus (hit_as w o.kind))) refl
+  with_content (header _) n x4 e = elim x4 [ ]
+  with_content (break _) n x5 e = elim x5 [ ]
+  with_content (play _) n x6 e = elim x6 [ ]
 
   with_found : (y : FoundRecord) → object_at s x ≡ y → All (λ f. OnlyObject f.0) y → Answered w s x (stepped_by w x y)
   with_found (refused n) e a = stop (none e)

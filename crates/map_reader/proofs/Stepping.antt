@@ -12,7 +12,7 @@ use Rattle.numbers.specs.Floats.{whole}
 use Rattle.rules.specs.Limits.{max_nested, max_bonus}
 use Rattle.rules.specs.Refusals.{good, refused, pick}
 use Rattle.records.specs.Objects.{Item, Object, Kind, circle, slider, spinner, slider_view, kind_view, object_view, kind_bonus}
-use Rattle.records.specs.Records.{Content, object, FoundRecord, content_view, record_read, circle_of, slider_of, spinner_of, object_of}
+use Rattle.records.specs.Records.{Content, object, FoundRecord, content_view, record_read, circle_of, slider_of, spinner_of, object_of, break, header, play}
 use Rattle.records.specs.declared.hit_object.Slider.{Slider}
 use Rattle.records.specs.declared.hit_object.HitObject.{HitObject}
 use Rattle.records.specs.declared.hit_object.HitObjectKind.{HitObjectKind}
@@ -87,6 +87,9 @@ object_read K (good f) item n a e = go f.0 f.1 refl (all_out a) (cc)
         let i : n ≡ k = cc in
         let v : item ≡ record_case.Object (object_view o) = cc in
         record { o = o; is = ap good (p ∙ ap (λ (l : ℕ). (object o, l)) (sym i)); item_is = v; kind = h }
+    go (header _) k p x7 e = elim x7 [ ]
+    go (break _) k p x8 e = elim x8 [ ]
+    go (play _) k p x9 e = elim x9 [ ]
 
 pub circle_read : (r : List ℕ) (item : Record) (n : ℕ) → read.Good item n ≡ record_read (circle_of r) → ObjectRead IsCircle (circle_of r) item n
 circle_read r item n e = object_read IsCircle (circle_of r) item n (circle_kind r) e
@@ -157,27 +160,45 @@ module _ {K : Kind → Type 0} {y : FoundRecord} {item : Record} {n : ℕ} (k : 
 -- ---- by kind
 pub circle_of_lem : (k : Kind) → IsCircle k → kind_view k ≡ kind.Circle
 circle_of_lem circle a_circle = refl
+circle_of_lem (slider _) x'' = elim x'' [ ]
+circle_of_lem (spinner _) x3 = elim x3 [ ]
 
 pub circle_free : (k : Kind) → IsCircle k → kind_bonus k ≡ 0
 circle_free circle a_circle = refl
+circle_free (slider _) x'' = elim x'' [ ]
+circle_free (spinner _) x3 = elim x3 [ ]
 
 pub slider_of_lem : (k : Kind) → IsSlider k → kind_view k ≡ kind.Slider (items_in k)
 slider_of_lem (slider is) a_slider = refl
+slider_of_lem circle x' = elim x' [ ]
+slider_of_lem (spinner _) x3 = elim x3 [ ]
 
 pub slider_free : (k : Kind) → IsSlider k → kind_bonus k ≡ 0
 slider_free (slider is) a_slider = refl
+slider_free circle x' = elim x' [ ]
+slider_free (spinner _) x3 = elim x3 [ ]
 
 pub spinner_of_lem : (k : Kind) → IsSpinner k → kind_view k ≡ kind.Spinner (record { duration = duration_in k })
 spinner_of_lem (spinner d) a_spinner = refl
+spinner_of_lem circle x' = elim x' [ ]
+spinner_of_lem (slider _) x3 = elim x3 [ ]
 
 -- ---- a circle or a slider steps the state the same, whether half spins are walked or not
 hit-circle : (w : Bool) (k : Kind) → IsCircle k → k ≡ hit_as w k
 hit-circle true circle a_circle = refl
 hit-circle false circle a_circle = refl
+hit-circle false (slider _) x3 = elim x3 [ ]
+hit-circle false (spinner _) x4 = elim x4 [ ]
+hit-circle true (slider _) x4 = elim x4 [ ]
+hit-circle true (spinner _) x5 = elim x5 [ ]
 
 hit-slider : (w : Bool) (k : Kind) → IsSlider k → k ≡ hit_as w k
 hit-slider true (slider is) a_slider = refl
 hit-slider false (slider is) a_slider = refl
+hit-slider false circle x'' = elim x'' [ ]
+hit-slider false (spinner _) x4 = elim x4 [ ]
+hit-slider true circle x3 = elim x3 [ ]
+hit-slider true (spinner _) x5 = elim x5 [ ]
 
 stepped_either : (w : Bool) (K : Kind → Type 0) → ((k : Kind) → K k → k ≡ hit_as w k) → (x : Objects) (y : FoundRecord) → All (λ f. KindIn K f.0) y → stepped_by true x y ≡ stepped_by w x y
 stepped_either w K h x (refused n) a = refl
@@ -186,6 +207,9 @@ stepped_either w K h x (good f) a = go f.0 (all_out a)
     go : (c : Content) → KindIn K c → stepped_with true x c f.1 ≡ stepped_with w x c f.1
     go (object o) (of q) =
         ap (λ (k : Kind). pick (ltb max_bonus (bonus_of x + kind_bonus k)) step.OverBonus (step.Next (record { at = x.at + f.1; score = walk 1 x.score (hits_of k); nested = counted x.nested o.kind; last_start = o.start }))) (h o.kind q)
+    go (header _) x4 = elim x4 [ ]
+    go (break _) x5 = elim x5 [ ]
+    go (play _) x6 = elim x6 [ ]
 
 pub circle_either : (w : Bool) (x : Objects) (r : List ℕ) → stepped_by true x (circle_of r) ≡ stepped_by w x (circle_of r)
 circle_either w x r = stepped_either w IsCircle (hit-circle w) x (circle_of r) (circle_kind r)

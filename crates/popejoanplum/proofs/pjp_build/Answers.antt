@@ -7,4 +7,4 @@ use Rattle.popejoanplum.proofs.pjp_build.Goals as goal
 
 pub returns : goal.returns
 returns c =
-    ap (λ (s : Status). (s, c.build.new.1.0, c.build.new.1.1.0)) c.status_of.ensures ∙ ap status_left c.build.ensures
+    ap (λ (s : Status). (s, c.build.new.board, c.build.new.starts)) c.status_of.ensures ∙ ap status_left c.build.ensures

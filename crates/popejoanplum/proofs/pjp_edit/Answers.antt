@@ -6,4 +6,4 @@ use borrow.Author.Rules.{rules}
 use Rattle.popejoanplum.proofs.pjp_edit.Goals as goal
 
 pub returns : goal.returns
-returns c = ap (λ (s : Status). (s, c.edit.new.0, c.edit.new.1.0)) c.status_of.ensures ∙ ap status_left c.edit.ensures
+returns c = ap (λ (s : Status). (s, c.edit.new.board, c.edit.new.starts)) c.status_of.ensures ∙ ap status_left c.edit.ensures

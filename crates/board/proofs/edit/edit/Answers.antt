@@ -66,7 +66,7 @@ returns-in-Is-read_alone c =
     let own = c.own.ensures ∙ edits.own_is c.args.bytes.now _ found in
     let start = ap (λ (h : HitObject). h.start_time) found.same in
     let same = edits.same-put c.args.place b ts (edits.size_is c.in-Is.size c.args.count b ts room.1) own start in
-    ap (λ (r : Written). (r, c.put_at.new.0, c.put_at.new.1.0)) c.written.ensures
+    ap (λ (r : Written). (r, c.put_at.new.board, c.put_at.new.starts)) c.written.ensures
     ∙ ap (λ (z : Put × List ℕ × List Float). (written_of z.0, z.1, z.2)) c.put_at.ensures
     ∙ edits.written-left (put_place c.in-Is.size c.args.place c.own.result c.in-Is-read_alone.object.start_time b ts) b ts
     ∙ ap (λ (x : Checked (List ℕ × List Float)). written_left x c.args.board.now c.args.starts.now) (same ∙ sym (edits.puts c.args.board.now c.args.starts.now c.args.count c.args.place c.args.bytes.now room.0 c.if-count-place.false found.found found.read))

@@ -23,14 +23,13 @@ pub loop-i-smaller : goal.loop-i-smaller
 loop-i-smaller c = omega arith
 
 pub loop-i-preserved : goal.loop-i-preserved
-loop-i-preserved c =
-    (
-      omega arith,
-      c.store.ensures
-          ∙ ap₂ (λ (d : List ℕ) (v : Entry). put_entry d (c.args.e + c.loop-i.i) v) c.loop-i.invariant.1 c.new.ensures
-          ∙ cleared_next c.args.e c.loop-i.i c.args.b.now,
-      c.store.auto.b ∙ c.loop-i.invariant.2,
-    )
+loop-i-preserved c = (
+  omega arith,
+  c.store.ensures
+      ∙ ap₂ (λ (d : List ℕ) (v : Entry). put_entry d (c.args.e + c.loop-i.i) v) c.loop-i.invariant.1 c.new.ensures
+      ∙ cleared_next c.args.e c.loop-i.i c.args.b.now,
+  c.store.auto.b ∙ c.loop-i.invariant.2,
+)
 
 pub shape_of-b : goal.shape_of-b
 shape_of-b c = c.loop-i.invariant.2

@@ -9,7 +9,7 @@ use Rattle.tree.proofs.build.fill.Goals.{After-clear}
 
 -- the words once the last entry is cleared
 emptied_all : (c : After-clear) →
-    c.clear.new.0 ≡ emptied c.args.cap c.args.count c.args.b.now
+    c.clear.new.b ≡ emptied c.args.cap c.args.count c.args.b.now
 emptied_all c =
     let zeroth = c.store.ensures ∙ ap (put_entry c.args.b.now 0) c.new.ensures in
     c.clear.ensures ∙ ap (cleared (c.args.cap + c.args.count) (c.args.cap - c.args.count)) zeroth

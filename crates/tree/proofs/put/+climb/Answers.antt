@@ -9,12 +9,6 @@ use Rattle.tree.proofs.Climbs.{beside_pair, above_in, told_good, told_refused, a
 use Prim.Native.Nat.{ℕ, ◌<◌, ◌-◌, ◌/◌}
 use Rattle.tree.proofs.put.+climb.Goals as goal
 
-abbrev climb_at : ℕ → In 1 climb-kinds.ps
-climb_at t = and 1 climb-kinds.ps (is 1 climb-kinds.ps μ_climb t) climb.Pre
-
-abbrev climb_below : ℕ → In 1 climb-kinds.ps
-climb_below t = and 1 climb-kinds.ps (falls 1 climb-kinds.ps ◌<◌ μ_climb t) climb.Pre
-
 pub store-requires : goal.store-requires
 store-requires t c = omega arith
 
@@ -26,17 +20,17 @@ pub load-requires : goal.load-requires
 load-requires t c = omega (arith, ap (λ (n : ℕ). n / 2) c.beside.ensures ∙ beside_pair c.args.e)
 
 pub above-requires : goal.above-requires
-above-requires t c = c.requires.1.1
+above-requires t c = c.requires.1
 
 pub overflow_sub-levels : goal.overflow_sub-levels
 overflow_sub-levels t c = omega (arith, c.if-levels-eq0.false)
 
 pub climb-requires : goal.climb-requires
 climb-requires t c =
-    (omega (arith, c.if-levels-eq0.false, c.requires.0), (omega (arith, c.requires.1.0), above_in c.args.e c.args.v c.load.result c.in-Is.u (told_good (above_of c.args.e c.args.v c.load.result) c.in-Is.u (so c.in-Is.is c.above.ensures))))
+    (omega (arith, c.if-levels-eq0.false), (omega (arith, c.requires.0), above_in c.args.e c.args.v c.load.result c.in-Is.u (told_good (above_of c.args.e c.args.v c.load.result) c.in-Is.u (so c.in-Is.is c.above.ensures))))
 
 pub store-requires-in-Done : goal.store-requires-in-Done
-store-requires-in-Done t c = omega (arith, c.climb.auto.b, c.requires.1.0)
+store-requires-in-Done t c = omega (arith, c.climb.auto.b, c.requires.0)
 
 pub returns-in-Refused : goal.returns-in-Refused
 returns-in-Refused t c =

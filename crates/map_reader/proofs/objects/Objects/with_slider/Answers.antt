@@ -16,13 +16,13 @@ returns-in_default c = stops true c.args.self (slider_of c.args.r.now) _ (so c.i
 pub returns-in_default-item : goal.returns-in_default-item
 returns-in_default-item c =
     let k = slider_read c.args.r.now _ _ (so c.in-Good.is c.read_slider.ensures) in
-    absurd (miss (0 ∷ 1 ∷ 3 ∷ []) 2 tt (rw k.item_is at c.in_default-item.keys2))
+    absurd (c.in_default-item.not-Object _ k.item_is)
 
 pub returns-in_default-kind : goal.returns-in_default-kind
 returns-in_default-kind c =
     let k = slider_read c.args.r.now _ _ (so c.in-Good.is c.read_slider.ensures) in
     let is = kind_is k _ c.in-Object.is ∙ slider_of_lem _ k.kind in
-    absurd (miss (0 ∷ 2 ∷ []) 1 tt (rw is at c.in_default-kind.keys2))
+    absurd (c.in_default-kind.not-Slider _ is)
 
 pub overflow_add-result : goal.overflow_add-result
 unfolding object_of

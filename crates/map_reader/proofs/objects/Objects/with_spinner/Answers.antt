@@ -15,13 +15,13 @@ returns-in_default c = stops c.args.walks c.args.self (spinner_of c.args.r.now) 
 pub returns-in_default-item : goal.returns-in_default-item
 returns-in_default-item c =
     let k = spinner_read c.args.r.now _ _ (so c.in-Good.is c.read_spinner.ensures) in
-    absurd (miss (0 ∷ 1 ∷ 3 ∷ []) 2 tt (rw k.item_is at c.in_default-item.keys2))
+    absurd (c.in_default-item.not-Object _ k.item_is)
 
 pub returns-in_default-kind : goal.returns-in_default-kind
 returns-in_default-kind c =
     let k = spinner_read c.args.r.now _ _ (so c.in-Good.is c.read_spinner.ensures) in
     let is = kind_is k _ c.in-Object.is ∙ spinner_of_lem _ k.kind in
-    absurd (miss (0 ∷ 1 ∷ []) 2 tt (rw is at c.in_default-kind.keys2))
+    absurd (c.in_default-kind.not-Spinner _ is)
 
 pub returns-then-next-gt-MAX_BONUS : goal.returns-then-next-gt-MAX_BONUS
 returns-then-next-gt-MAX_BONUS c =

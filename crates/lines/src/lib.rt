@@ -1,5 +1,6 @@
 // The lines of the listing program, written into a lent space. Each function takes the place where its text starts and answers the place behind it.
 #![tactic(auto)]
+
 ghost use Rattle.std.specs.Prelude.{◌≡◌};
 ghost use Rattle.text.specs.Ascii.{ascii};
 ghost use Rattle.text.specs.Space.{put_at, behind};

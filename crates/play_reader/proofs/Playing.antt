@@ -50,6 +50,9 @@ play_is r p e = go (play_record r) refl (play_only r) e
   where
     by_content : (x : Content) (n : ℕ) → PlayOnly x n → play_record r ≡ good (x, n) → read.Is p ≡ play_with x → play_record r ≡ good (play p, 44)
     by_content (play q) n only h e = let same : q ≡ p = cc in h ∙ ap (λ (i : Play). good (play i, 44)) same
+    by_content (header _) n x5 h e = elim x5 [ ]
+    by_content (break _) n x6 h e = elim x6 [ ]
+    by_content (object _) n x7 h e = elim x7 [ ]
 
     go : (x : FoundRecord) → play_record r ≡ x → All (λ f. PlayOnly f.0 f.1) x → read.Is p ≡ play_by x → play_record r ≡ good (play p, 44)
     go (refused n) q a e = never (cc)
@@ -60,6 +63,9 @@ play_refused r n e = go (play_record r) refl (play_only r) e
   where
     by_content : (x : Content) (m : ℕ) → PlayOnly x m → read.Refused n ≡ play_with x → play_record r ≡ refused n
     by_content (play q) m only e = never (cc)
+    by_content (header _) m x4 e = elim x4 [ ]
+    by_content (break _) m x5 e = elim x5 [ ]
+    by_content (object _) m x6 e = elim x6 [ ]
 
     go : (x : FoundRecord) → play_record r ≡ x → All (λ f. PlayOnly f.0 f.1) x → read.Refused n ≡ play_by x → play_record r ≡ refused n
     go (refused m) q a e = let same : m ≡ n = cc in q ∙ ap refused same
@@ -148,6 +154,9 @@ free c h (good f) a = go f (all_out a)
 
     go : (g : Content × ℕ) → PlayOnly g.0 g.1 → ((refuse 7 when over_bonus c (content_bonus g.0)) >> good g) ≡ good g
     go (play p, n) only = rw (le-ltb max_bonus (c.bonus + 0) none_more)
+    go (header _, n) x7 = elim x7 [ ]
+    go (break _, n) x8 = elim x8 [ ]
+    go (object _, n) x9 = elim x9 [ ]
 
 order : (r : List ℕ) (c : Counts) → c.last ≡ 4 → 2 ≤ length r → not (in_order 4 (rank_of (word_at r 0 2))) ≡ true → record_of r c ≡ refused 3
 unfolding record_of ◌>>◌ refuse◌when◌
@@ -258,6 +267,9 @@ module _ {s : List ℕ} {p : ℕ} {m : Map} (k : MapIs s p m) (g : File) where
       ahead : Place k.file f → k.file.at < f.at + 44
       ahead (first z) = let a = ap (λ (i : File). i.at) z in omega (arith, a)
       ahead (later z l) = omega (arith, l)
+  with_play f w h (header _) n e x4 = elim x4 [ ]
+  with_play f w h (break _) n e x5 = elim x5 [ ]
+  with_play f w h (object _) n e x6 = elim x6 [ ]
 
   from_same : (fuel : ℕ) (f : File) → Reached k f → file_from fuel s f ≡ accepted g → g.map ≡ k.file.map
   unfolding file_from

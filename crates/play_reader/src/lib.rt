@@ -1,5 +1,6 @@
 // The plays behind a map: the records of a file from the map's end on.
 #![tactic(auto)]
+
 ghost use Rattle.std.specs.Prelude.{◌≡◌, length, drop};
 ghost use Rattle.map_file.specs.File.{file_of};
 ghost use Rattle.play_reader.specs.Plays.{play_in, MapFileOf};

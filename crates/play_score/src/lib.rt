@@ -1,5 +1,6 @@
 // A play on the passed objects of its map: what it is refused for, and its score.
 #![tactic(auto)]
+
 ghost use Rattle.std.specs.Prelude.{◌≡◌};
 ghost use Rattle.play_score.specs.PlayRules.{mods_bad, hits_exceed, exceeds, play_score, scored_of, given_of, given_answer, given_score};
 

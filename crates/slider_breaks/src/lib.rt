@@ -1,5 +1,6 @@
 // The slider breaks of a play, estimated from its effective miss count and two factors that come with the call, and what the factors are refused for.
 #![tactic(auto)]
+
 ghost use Rattle.std.specs.Prelude.{◌≡◌};
 ghost use Rattle.slider_breaks.specs.Given.{is_factor, factors_bad};
 

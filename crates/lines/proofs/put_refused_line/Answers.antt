@@ -7,9 +7,9 @@ use Rattle.lines.proofs.put_refused_line.Goals as goal
 pub returns : goal.returns
 unfolding refused_line
 returns c =
-    let written1 = first c.args.space.now c.args.at _ c.put_text-at.ensures in
-    let written2 = next written1 _ c.put_number-at.ensures in
-    let written3 = next written2 _ c.put_text-at-2.ensures in
-    let written4 = next written3 _ c.put_number-at-2.ensures in
-    let written5 = next written4 _ c.end_line.ensures in
+    let written1 = first c.args.space.now c.args.at _ (c.put_text-at.ensures.value, c.put_text-at.ensures.space_after) in
+    let written2 = next written1 _ (c.put_number-at.ensures.value, c.put_number-at.ensures.space_after) in
+    let written3 = next written2 _ (c.put_text-at-2.ensures.value, c.put_text-at-2.ensures.space_after) in
+    let written4 = next written3 _ (c.put_number-at-2.ensures.value, c.put_number-at-2.ensures.space_after) in
+    let written5 = next written4 _ (c.end_line.ensures.value, c.end_line.ensures.space_after) in
     record { value = written5.place; space_after = written5.space }

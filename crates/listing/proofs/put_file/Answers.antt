@@ -15,12 +15,12 @@ use Rattle.listing.proofs.put_file.Goals as goal
 pub put_plays-requires : goal.put_plays-requires
 put_plays-requires c =
     let answered = subst (PlaysOf c.args.s.now 18446744073709551615) c.in-Good.is c.check_plays.ensures in
-    record { good_file = file_good c.args.s.now _ _ answered; from_in_bounds = put_inside _ _ _ c.put_map_line-to.ensures }
+    record { good_file = file_good c.args.s.now _ _ answered; from_in_bounds = put_inside _ _ _ (c.put_map_line-to.ensures.value, c.put_map_line-to.ensures.space_after) }
 
 pub returns-in-Refused : goal.returns-in-Refused
 returns-in-Refused c =
     let answered = subst (PlaysOf c.args.s.now 18446744073709551615) c.in-Refused.is c.check_plays.ensures in
-    let r = subst (λ (t : List ℕ). Puts c.args.space.now 0 t c.put_refused_line.new.space c.put_refused_line.result) (text_refused c.args.s.now _ _ answered) c.put_refused_line.ensures in record { value = r.0; space_after = r.1 }
+    let r = subst (λ (t : List ℕ). Puts c.args.space.now 0 t c.put_refused_line.new.space c.put_refused_line.result) (text_refused c.args.s.now _ _ answered) (c.put_refused_line.ensures.value, c.put_refused_line.ensures.space_after) in record { value = r.0; space_after = r.1 }
 
 pub shape_of-space-in-Refused : goal.shape_of-space-in-Refused
 shape_of-space-in-Refused c = ap length (returns (goal.at.shape_of-space-in-Refused c).After-slice_known-in-Refused-1).1 ∙ length_put _ _ _
@@ -30,7 +30,7 @@ returns-in-Good c =
     let s = c.args.s.now in
     let space = c.args.space.now in
     let answered = subst (PlaysOf s 18446744073709551615) c.in-Good.is c.check_plays.ensures in
-    let all = next (first space 0 _ c.put_map_line-to.ensures) (plays_text (scores_of (file_of s))) c.put_plays.ensures in
+    let all = next (first space 0 _ (c.put_map_line-to.ensures.value, c.put_map_line-to.ensures.space_after)) (plays_text (scores_of (file_of s))) (c.put_plays.ensures.value, c.put_plays.ensures.space_after) in
     let text = subst (λ (t : List ℕ). Written space 0 t c.put_plays.new.space c.put_plays.result) (text_good s _ _ answered) all in
     record { value = text.place; space_after = text.space }
 

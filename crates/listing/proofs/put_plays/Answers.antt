@@ -51,7 +51,7 @@ loop-at-smaller c =
 pub loop-at-preserved : goal.loop-at-preserved
 loop-at-preserved c =
     let estimates = from_mark c.loop-at.invariant c.marks_of-marks.ensures c.in-Is.play _ _ c.mark_before-i.ensures.0 _ c.attributes_from-a.ensures _ c.calculate.ensures in
-    writing_line c.loop-at.invariant c.loop-at-test.true _ (so c.in-Is.is c.play_at.ensures) c.requires.good_file _ estimates _ _ c.put_play_line-to.ensures
+    writing_line c.loop-at.invariant c.loop-at-test.true _ (so c.in-Is.is c.play_at.ensures) c.requires.good_file _ estimates _ _ (c.put_play_line-to.ensures.value, c.put_play_line-to.ensures.space_after)
 
 pub shape_of-space : goal.shape_of-space
 shape_of-space c = writing_length c.loop-at.invariant

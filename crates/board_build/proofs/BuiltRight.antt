@@ -87,7 +87,7 @@ module _ (s : List ℕ) (b : List ℕ) (ts : List Float) where
     unfolding build_of ◌>>◌
     no_room n q =
         let there = subst (λ (m : ℕ). room.Refused n ≡ room_of m (room_for b ts m)) count_is q in
-        let stopped : build_of os b ts ≡ refused n = rw (rooms.told-refused b ts (length os) n there) in
+        let stopped : build_of os b ts ≡ refused n = rw (rooms.told_refused b ts (length os) n there) in
         on_objects stopped
 
     module _ (size : Size) (q : room.Is size ≡ room_of m.objects (room_for b ts m.objects)) where

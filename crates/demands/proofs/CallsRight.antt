@@ -54,7 +54,7 @@ pub edit_accepts : (m : Map) → AcceptedMap m → (place : ℕ) (r : List ℕ) 
     → AcceptedMap (changed m place o)
 edit_accepts m a place r o e t =
     let w = accepted_is_within m a in
-    let v = edits.alone-within r o e in
+    let v = edits.alone_within r o e in
     within-is_accepted (changed m place o) (changed-within m w place o v (low_bonus m w place o v t))
 
 put_within : (m : Map) → MapWithin m → (place : ℕ) (r : List ℕ) → MapWithin (put_if_accepted m place (object_in r))
@@ -66,7 +66,7 @@ put_within m w place r = go (object_in r) refl
 
     go : (x : Checked Object) → object_in r ≡ x → MapWithin (put_if_accepted m place x)
     go (refused k) e = w
-    go (good o) e = pick o (edits.alone-within r o e) (is_accepted (changed m place o)) refl
+    go (good o) e = pick o (edits.alone_within r o e) (is_accepted (changed m place o)) refl
 
 -- ---- a refused edit changes nothing
 refused_keeps : (x : Checked (List ℕ × List Float)) (l : Lent) → IsRefused (answered (written_left x l.board l.starts).0)

@@ -204,21 +204,21 @@ accepted_map_gets_no_number = accepted_gets_none
 -- first to that of the second"
 pub one_edit_leads : (m : Map) (place : ℕ) (o : Object) (words : List ℕ) (numbers : List Float) → AcceptedMap m → place < length m.objects
     → AcceptedMap (changed m place o) → Leads m place o words numbers
-one_edit_leads = boards.one-edit-leads
+one_edit_leads = boards.one_edit_leads
 
 -- "An edit may change only the entries that cover its place, at most 14, and its start time": on any lent memory
 pub edit_touches_only : (b : List ℕ) (ts : List Float) (n place : ℕ) (r : List ℕ) (w : List ℕ × List Float) → edit_of b ts n place r ≡ good w → Touches n place b ts w
-edit_touches_only = boards.edit-touches-only
+edit_touches_only = boards.edit_touches_only
 
 -- no call on the board of an accepted map, with the map's count, settings and breaks, gets 13
 pub never_13_edit : (m : Map) (words : List ℕ) (numbers : List Float) (place : ℕ) (r : List ℕ) → AcceptedMap m
     → answer (edit (length m.objects) place r) (lent_for m words numbers) ≢ edits (written.Refused BOARD 0)
-never_13_edit = boards.never-13-edit
+never_13_edit = boards.never_13_edit
 
 pub never_13_read : (m : Map) (words : List ℕ) (numbers : List Float) (p : Play) → AcceptedMap m
     → answer (read (length m.objects) m.settings (times_of m.breaks) p) (lent_for m words numbers) ≢ reads (goal.Refused BOARD 0)
-never_13_read = boards.never-13-read
+never_13_read = boards.never_13_read
 
 pub never_13_read_breaks : (m : Map) (words : List ℕ) (numbers : List Float) (p : Play) (f : SliderFactors) → AcceptedMap m
     → answer (read_breaks (length m.objects) m.settings (times_of m.breaks) p f) (lent_for m words numbers) ≢ reads_breaks (breaks.Refused BOARD 0)
-never_13_read_breaks = boards.never-13-read-breaks
+never_13_read_breaks = boards.never_13_read_breaks

@@ -68,7 +68,7 @@ module _ (m : Map) (w : MapWithin m) (words : List ℕ) (numbers : List Float) w
 
     module _ (inside : place < length os) where
       bad : (k : ℕ) → object_in r ≡ refused k → left (edit_of b ts (length os) place r) ≡ Left (record_answer m place (refused k)) (put_if_accepted m place (refused k))
-      bad k e = ap left (edits.bad-record b ts (length os) place r room inside k e)
+      bad k e = ap left (edits.bad_record b ts (length os) place r room inside k e)
 
       -- a record that is just one object
       put : (o : Object) → ObjectWithin o → object_in r ≡ good o
@@ -98,7 +98,7 @@ module _ (m : Map) (w : MapWithin m) (words : List ℕ) (numbers : List Float) w
         where
           go : (x : Checked Object) → object_in r ≡ x → left (edit_of b ts (length os) place r) ≡ Left (record_answer m place x) (put_if_accepted m place x)
           go (refused k) e = bad k e
-          go (good o) e = put o (edits.alone-within r o e) e
+          go (good o) e = put o (edits.alone_within r o e) e
 
     pub edit_right : left (edit_of b ts (length os) place r) ≡ Left (edit_answer m place r) (cond (ltb place (length os)) (put_if_accepted m place (object_in r)) m)
     edit_right = go (dec_lt place (length os))

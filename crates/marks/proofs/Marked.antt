@@ -70,6 +70,7 @@ data IsTo : Ran → Type 0 where
 
 ran_is : (x : Objects) (r : Ran) → IsTo r → ran.To (state_in x r) ≡ r
 ran_is x (ran.To y) is_to = refl
+ran_is x (ran.OverBonus _) x3 = elim x3 [ ]
 
 -- a state, or what of it is known where no half spin is walked
 abbrev seen : Bool → Objects → Objects
@@ -110,6 +111,8 @@ module _ {s : List ℕ} {m : Map} (w : IsMap s m) where
       go : (b : Bool) (r : Ran) → ran_of true n s (first_of m) ≡ r → RanTo (take n os) r → Reached b n (ran_of b n s (first_of m))
       go true (ran.To y) e (to k) = record { y = y; state = k; is = e }
       go false (ran.To y) e (to k) = record { y = y; state = k; is = sym (ran_bare n s (first_of m) y (sym e)) }
+      go false (ran.OverBonus _) e x5 = elim x5 [ ]
+      go true (ran.OverBonus _) e x5 = elim x5 [ ]
 
   module _ (b : Bool) (n : ℕ) (x : Objects) (h : n ≤ m.objects) (e : ran.To x ≡ ran_of b n s (first_of m)) where
     abbrev behind : Objects

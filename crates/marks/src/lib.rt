@@ -1,6 +1,7 @@
 // The states behind some objects of a map, kept, so that any number of passed objects is a few steps from one of them. They have no bonus, so that no
 // half spin is walked for them: a play is checked and its misses are estimated without.
 #![tactic(auto)]
+
 ghost use Rattle.std.specs.Prelude.{◌≡◌, ◌≤◌, ◌<◌, false};
 ghost use Rattle.rules.specs.Limits.{max_objects};
 ghost use Rattle.map_reader.specs.Objects.{Small};

@@ -23,7 +23,7 @@ returns-in-Refused c =
     let r = subst (λ (t : List ℕ). Puts c.args.space.now 0 t c.put_refused_line.new.space c.put_refused_line.result) (text_refused c.args.s.now _ _ answered) (c.put_refused_line.ensures.value, c.put_refused_line.ensures.space_after) in record { value = r.0; space_after = r.1 }
 
 pub shape_of-space-in-Refused : goal.shape_of-space-in-Refused
-shape_of-space-in-Refused c = ap length (returns (goal.at.shape_of-space-in-Refused c).After-slice_known-in-Refused-1).1 ∙ length_put _ _ _
+shape_of-space-in-Refused c = ap length (returns-in-Refused c).space_after ∙ length_put _ _ _
 
 pub returns-in-Good : goal.returns-in-Good
 returns-in-Good c =

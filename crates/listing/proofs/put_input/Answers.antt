@@ -14,7 +14,7 @@ returns-then-s-gt-MAX_INPUT c =
 
 pub shape_of-space-then-s-gt-MAX_INPUT : goal.shape_of-space-then-s-gt-MAX_INPUT
 shape_of-space-then-s-gt-MAX_INPUT c =
-    ap length (returns (goal.at.shape_of-space-then-s-gt-MAX_INPUT c).After-slice_known-then-s-gt-MAX_INPUT-1).1 ∙ length_put _ _ _
+    ap length (returns-then-s-gt-MAX_INPUT c).space_after ∙ length_put _ _ _
 
 pub returns : goal.returns
 unfolding input_text

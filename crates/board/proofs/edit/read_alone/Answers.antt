@@ -27,7 +27,7 @@ pub returns-in-Refused : goal.returns-in-Refused
 returns-in-Refused c =
     let mark : c.word_at.result ≡ word_at c.args.r.now 0 2 = c.word_at.ensures.0 in
     let found = so c.in-Refused.is c.read_object.ensures ∙ ap (λ (m : ℕ). record_read (object_of c.args.r.now m)) mark in
-    sym (ap alone_of (alones.not-read c.args.r.now c.if-r-lt2.false _ found))
+    sym (ap alone_of (alones.not_read c.args.r.now c.if-r-lt2.false _ found))
 
 pub returns-else-size-r : goal.returns-else-size-r
 returns-else-size-r c =

@@ -24,11 +24,11 @@ returns-then-board-size c =
 pub returns-then-starts-count : goal.returns-then-starts-count
 returns-then-starts-count c =
     let cap : c.size_of-size.result.cap ≡ cap_of c.args.count = c.size_of-size.ensures.1 in
-    sym (ap (room_of c.args.count) (rooms.few-numbers c.args.board.now c.args.starts.now c.args.count c.if-count.false (omega (arith, cap, c.if-board-size.false)) c.if-starts-count.true))
+    sym (ap (room_of c.args.count) (rooms.few_numbers c.args.board.now c.args.starts.now c.args.count c.if-count.false (omega (arith, cap, c.if-board-size.false)) c.if-starts-count.true))
 
 pub returns : goal.returns
 returns c =
     let cap : c.size_of-size.result.cap ≡ cap_of c.args.count = c.size_of-size.ensures.1 in
     let levels : c.size_of-size.result.levels ≡ levels_of c.args.count = c.size_of-size.ensures.0 in
-    ap₂ (λ (l (goal.at.returns c).Else-starts-count : ℕ). room.Is (record { levels = l; cap = (goal.at.returns c).Else-starts-count })) levels cap
+    ap₂ (λ (l n : ℕ). room.Is (record { levels = l; cap = n })) levels cap
     ∙ sym (ap (room_of c.args.count) (rooms.roomy c.args.board.now c.args.starts.now c.args.count c.if-count.false (omega (arith, cap, c.if-board-size.false)) c.if-starts-count.false))

@@ -18,16 +18,15 @@ score_multiplier-multiplier-requires c =
     (c.requires.1, omega (arith, objects), search rules)
 
 pub score_attributes-requires : goal.score_attributes-requires
-score_attributes-requires c =
-    (
-      subst Bounded (sym c.state_in.ensures) (state_bounded c.args.found.sum c.requires.2),
-      subst (Counted max_objects) (sym c.counts_in.ensures) (counts_bounded c.args.found.sum c.requires.2),
-      c.score_multiplier-multiplier.ensures.1,
-    )
+score_attributes-requires c = (
+  subst Bounded (sym c.state_in.ensures) (state_bounded c.args.found.sum c.requires.2),
+  subst (Counted max_objects) (sym c.counts_in.ensures) (counts_bounded c.args.found.sum c.requires.2),
+  c.score_multiplier-multiplier.ensures.1,
+)
 
 pub returns : goal.returns
 unfolding attributes_from
 returns c =
     let e = kept c.drain_from-drain.result (omega arith) ∙ c.drain_from-drain.ensures.0 in
     let m = c.score_multiplier-multiplier.ensures.0 ∙ ap (multiplier_of c.args.settings c.args.found.sum.object_count) e in
-    c.score_attributes.ensures ∙ readings.same-attributes c.state_in.ensures c.counts_in.ensures m
+    c.score_attributes.ensures ∙ readings.same_attributes c.state_in.ensures c.counts_in.ensures m

@@ -13,7 +13,7 @@ use Rattle.board.proofs.read.read_in.Goals as goal
 
 pub attributes_from-requires : goal.attributes_from-requires
 attributes_from-requires c =
-    let f = searches.told-found c.args.board.now c.args.starts.now c.args.count c.least-p.result _ (so c.in-Found.is c.find.ensures) in
+    let f = searches.told_found c.args.board.now c.args.starts.now c.args.count c.least-p.result _ (so c.in-Found.is c.find.ensures) in
     let k = searches.found_in c.args.board.now c.args.starts.now c.args.count c.least-p.result _ f in
     (c.requires.1, c.requires.2, k.0, k.1)
 
@@ -28,7 +28,7 @@ pub returns-in-Found : goal.returns-in-Found
 returns-in-Found c =
     let p : c.least-p.result ≡ min c.args.play.passed_objects c.args.count = c.least-p.ensures in
     let at = ap (λ (k : ℕ). found_of c.args.board.now c.args.starts.now c.args.count k) p in
-    let f = searches.told-found c.args.board.now c.args.starts.now c.args.count c.least-p.result _ (so c.in-Found.is c.find.ensures) in
+    let f = searches.told_found c.args.board.now c.args.starts.now c.args.count c.least-p.result _ (so c.in-Found.is c.find.ensures) in
     c.given.ensures
     ∙ ap given_of c.score_on.ensures
     ∙ ap (λ (x : ScoreAttributes). given_of (scored_of (play_score c.args.play x))) c.attributes_from.ensures

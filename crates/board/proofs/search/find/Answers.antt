@@ -29,30 +29,30 @@ quick_sum_of_first-requires c =
 pub returns-in_default : goal.returns-in_default
 returns-in_default c =
     let levels = ap (λ (l : ℕ). walked (l + 1) c.args.board.now 1 c.args.p none) c.requires.0.levels in
-    let sum = sym levels ∙ climbs.told-good _ _ (so c.in-Is.is c.quick_sum_of_first.ensures) in
-    sym (ap search_of (searches.starts-stop c.args.board.now c.args.starts.now c.args.count c.args.p _ sum (searches.bad-starts c.args.starts.now c.args.count c.args.p (so c.in_default.is c.find_starts.ensures))))
+    let sum = sym levels ∙ climbs.told_good _ _ (so c.in-Is.is c.quick_sum_of_first.ensures) in
+    sym (ap search_of (searches.starts_stop c.args.board.now c.args.starts.now c.args.count c.args.p _ sum (searches.bad-starts c.args.starts.now c.args.count c.args.p (so c.in_default.is c.find_starts.ensures))))
 
 pub is_unsound-requires : goal.is_unsound-requires
 is_unsound-requires c =
     let levels = ap (λ (l : ℕ). walked (l + 1) c.args.board.now 1 c.args.p none) c.requires.0.levels in
-    let sum = sym levels ∙ climbs.told-good _ _ (so c.in-Is.is c.quick_sum_of_first.ensures) in
-    searches.sum-in (levels_of c.args.count + 1) c.args.board.now c.args.p _ sum
+    let sum = sym levels ∙ climbs.told_good _ _ (so c.in-Is.is c.quick_sum_of_first.ensures) in
+    searches.sum_in (levels_of c.args.count + 1) c.args.board.now c.args.p _ sum
 
 pub returns-then-is_unsound : goal.returns-then-is_unsound
 returns-then-is_unsound c =
     let levels = ap (λ (l : ℕ). walked (l + 1) c.args.board.now 1 c.args.p none) c.requires.0.levels in
-    let sum = sym levels ∙ climbs.told-good _ _ (so c.in-Is.is c.quick_sum_of_first.ensures) in
-    let starts = searches.good-starts c.args.starts.now c.args.count c.args.p _ (so c.in-Are.is c.find_starts.ensures) in
-    sym (ap search_of (searches.unsound-stop c.args.board.now c.args.starts.now c.args.count c.args.p _ sum _ starts (so c.is_unsound.ensures c.if-is_unsound.true)))
+    let sum = sym levels ∙ climbs.told_good _ _ (so c.in-Is.is c.quick_sum_of_first.ensures) in
+    let starts = searches.good_starts c.args.starts.now c.args.count c.args.p _ (so c.in-Are.is c.find_starts.ensures) in
+    sym (ap search_of (searches.unsound_stop c.args.board.now c.args.starts.now c.args.count c.args.p _ sum _ starts (so c.is_unsound.ensures c.if-is_unsound.true)))
 
 pub returns-in-Refused : goal.returns-in-Refused
 returns-in-Refused c =
     let levels = ap (λ (l : ℕ). walked (l + 1) c.args.board.now 1 c.args.p none) c.requires.0.levels in
-    sym (ap search_of (searches.stops c.args.board.now c.args.starts.now c.args.count c.args.p _ (sym levels ∙ climbs.told-refused _ _ (so c.in-Refused.is c.quick_sum_of_first.ensures))))
+    sym (ap search_of (searches.stops c.args.board.now c.args.starts.now c.args.count c.args.p _ (sym levels ∙ climbs.told_refused _ _ (so c.in-Refused.is c.quick_sum_of_first.ensures))))
 
 pub returns-else-is_unsound : goal.returns-else-is_unsound
 returns-else-is_unsound c =
     let levels = ap (λ (l : ℕ). walked (l + 1) c.args.board.now 1 c.args.p none) c.requires.0.levels in
-    let sum = sym levels ∙ climbs.told-good _ _ (so c.in-Is.is c.quick_sum_of_first.ensures) in
-    let starts = searches.good-starts c.args.starts.now c.args.count c.args.p _ (so c.in-Are.is c.find_starts.ensures) in
+    let sum = sym levels ∙ climbs.told_good _ _ (so c.in-Is.is c.quick_sum_of_first.ensures) in
+    let starts = searches.good_starts c.args.starts.now c.args.count c.args.p _ (so c.in-Are.is c.find_starts.ensures) in
     sym (ap search_of (searches.finds c.args.board.now c.args.starts.now c.args.count c.args.p _ sum _ starts (so c.is_unsound.ensures c.if-is_unsound.false)))

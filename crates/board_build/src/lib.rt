@@ -1,5 +1,6 @@
 // The board and the start table of a map file.
 #![tactic(auto)]
+
 ghost use Rattle.std.specs.Prelude.{◌≡◌};
 ghost use Rattle.records.specs.Records.{record_read, object_of};
 ghost use Rattle.map_file.specs.File.{file_of};

@@ -1,5 +1,6 @@
 // What crosses to a host in C or Rust: numbers and #[repr(C)] structs by value, in place of the enums and nested structs of the engine.
 #![tactic(auto)]
+
 pub mod answer; // the values of a map and of a play
 pub mod breaks; // factors, and the slider breaks of a play
 pub mod map; // settings, and what a map file holds

@@ -1,5 +1,6 @@
 // The text of the listing program, written into a lent space: which lines a file gets, and what stands in them.
 #![tactic(auto)]
+
 ghost use Rattle.std.specs.Prelude.{◌≡◌, ◌≤◌, length};
 ghost use Rattle.text.specs.Space.{put_at, behind};
 ghost use Rattle.map_file.specs.File.{file_of};

@@ -1,6 +1,7 @@
 // A heat: up to 64 plays on one map in one call. Here is what is known before its first play, and the answer of one play; the loop stands with the
 // lists that a host lends (`pjp_heat` of the crate `popejoanplum`).
 #![tactic(auto)]
+
 ghost use Rattle.std.specs.Prelude.{◌≡◌};
 ghost use Rattle.map_file.specs.File.{file_of};
 ghost use Rattle.scoring.specs.Scores.{scores_of};

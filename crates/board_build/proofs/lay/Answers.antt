@@ -12,6 +12,9 @@ objects_from-at-requires c = (complete c.requires.map).1
 pub loop-place-init : goal.loop-place-init
 loop-place-init c = laying_start c.requires _ c.objects_from-at.ensures
 
+pub slice_bounds-r-start : goal.slice_bounds-r-start
+slice_bounds-r-start c = let i = laying_inside c.loop-place.invariant c.loop-place-test.true in omega (arith, i)
+
 pub slice_bounds-r-count : goal.slice_bounds-r-count
 slice_bounds-r-count c = let i = laying_inside c.loop-place.invariant c.loop-place-test.true in omega (arith, i)
 

@@ -35,4 +35,4 @@ returns-in-Good c =
     record { value = text.place; space_after = text.space }
 
 pub shape_of-space-in-Good : goal.shape_of-space-in-Good
-shape_of-space-in-Good c = ap length (returns-2 (goal.at.shape_of-space-in-Good c).After-slice_known-in-Good-2-1).1 ∙ length_put _ _ _
+shape_of-space-in-Good c = ap length (returns-in-Good c).space_after ∙ length_put _ _ _

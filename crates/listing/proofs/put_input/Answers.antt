@@ -10,7 +10,7 @@ use Rattle.listing.proofs.put_input.Goals as goal
 pub returns-then-s-gt-MAX_INPUT : goal.returns-then-s-gt-MAX_INPUT
 unfolding input_text
 returns-then-s-gt-MAX_INPUT c =
-    let r = simp (lt-ltb _ _ c.if-s-gt-MAX_INPUT.true) (c.put_refused_line.ensures.value, c.put_refused_line.ensures.space_after) in record { value = r.0; space_after = r.1 }
+    record { value = simp (lt-ltb _ _ c.if-s-gt-MAX_INPUT.true) c.put_refused_line.ensures.value; space_after = simp (lt-ltb _ _ c.if-s-gt-MAX_INPUT.true) c.put_refused_line.ensures.space_after }
 
 pub shape_of-space-then-s-gt-MAX_INPUT : goal.shape_of-space-then-s-gt-MAX_INPUT
 shape_of-space-then-s-gt-MAX_INPUT c =
@@ -19,7 +19,7 @@ shape_of-space-then-s-gt-MAX_INPUT c =
 pub returns : goal.returns
 unfolding input_text
 returns c =
-    let r = simp (le-ltb _ _ c.if-s-gt-MAX_INPUT.false) (c.put_file.ensures.value, c.put_file.ensures.space_after) in record { value = r.0; space_after = r.1 }
+    record { value = simp (le-ltb _ _ c.if-s-gt-MAX_INPUT.false) c.put_file.ensures.value; space_after = simp (le-ltb _ _ c.if-s-gt-MAX_INPUT.false) c.put_file.ensures.space_after }
 
 pub shape_of-space : goal.shape_of-space
-shape_of-space c = ap length (returns-2 (goal.at.shape_of-space c).After-slice_known-2-1).1 ∙ length_put _ _ _
+shape_of-space c = ap length (returns c).space_after ∙ length_put _ _ _

@@ -24,7 +24,7 @@ shape_of-space-in_default c = writing_length c.loop-at.invariant
 
 pub returns-in_default : goal.returns-in_default
 returns-in_default c =
-    let r = writing_cut c.loop-at.invariant c.loop-at-test.true c.requires.good_file _ (so c.in_default.is c.play_at.ensures) in record { value = r.0; space_after = r.1 }
+    writing_cut c.loop-at.invariant c.loop-at-test.true c.requires.good_file _ (so c.in_default.is c.play_at.ensures)
 
 pub attributes_from-a-requires : goal.attributes_from-a-requires
 attributes_from-a-requires c =

@@ -2,6 +2,7 @@
 // slices that do not overlap.
 
 #![tactic(auto)]
+
 ghost use Rattle.std.specs.Prelude.{◌≡◌};
 ghost use Rattle.map_file.specs.File.{file_of};
 ghost use Rattle.play_reader.specs.View.{answer_of};

@@ -5,9 +5,12 @@ use Rattle.popejoanplum.proofs.pjp_read.Goals as goal
 
 pub returns : goal.returns
 returns c =
-    record { value = simp (
+    record {
+      value = simp (
         c.given_answer_of.ensures,
         c.read.ensures.value,
         c.play_in.ensures,
         c.settings_in.ensures,
-      ); board_value = (refl, refl, refl) }
+      );
+      board_value = (refl, refl, refl);
+    }

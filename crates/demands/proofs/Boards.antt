@@ -128,7 +128,7 @@ edit_touches_only b ts n place r w e = go (room_for b ts n) refl e
     go : (x : Checked (Unit {0})) → room_for b ts n ≡ x → (x >> rest) ≡ good w → Touches n place b ts w
     go (refused k) q e = never (cc)
     go (good u) q e =
-        let m = rooms.decreases b ts n u q in
+        let m = rooms.measured b ts n u q in
         let c = passed 12 (leb n place) (object_in r >>= (λ o. climbed (levels_of n) b (cap_of n + place) (entry_of (o ∷ [])) >>= (λ l. good (l, set ts place o.start)))) w e in
         let d = bound (object_in r) (λ o. climbed (levels_of n) b (cap_of n + place) (entry_of (o ∷ [])) >>= (λ l. good (l, set ts place o.start))) w c.1 in
         let f = bound (climbed (levels_of n) b (cap_of n + place) (entry_of (d.value ∷ []))) (λ l. good (l, set ts place d.value.start)) w d.second in

@@ -1,7 +1,6 @@
 -- The record of an object alone: each answer is what the definition computes from the tests on the way.
 use Prim.Native.Nat.{ℕ, ◌≤◌, ◌<◌}
 use mathlib.Core.Path.{◌≡◌, refl, sym, ap, ◌∙◌}
-use mathlib.Core.Bool.{Bool, true, false}
 use mathlib.Core.List.{List}
 use native.Mathlib.Omega.{arith}
 use borrow.Author.Tests.{lt-ltb, le-ltb, eq-eqb, ne_eqb}
@@ -9,13 +8,12 @@ use lib.Dec.{ltb}
 use lib.ListN.{length}
 use Rattle.numbers.specs.Words.{word_at}
 use Rattle.rules.specs.Refusals.{Checked, good, refused, ◌>>=◌, ◌>>◌, refuse◌when◌}
-use Rattle.records.specs.Objects.{Object, object_view}
+use Rattle.records.specs.Objects.{Object}
 use Rattle.records.specs.Records.{Content, header, break, object, play, FoundRecord, object_of, record_read, content_view}
 use Rattle.records.specs.declared.record.Record.{Record}
 use Rattle.records.specs.declared.record.Read.TheVariants as read
 use Rattle.rules.proofs.Laws.{never}
 use Rattle.board.specs.Edit.{object_only, object_in, alone_of, only_of}
-use Rattle.board.specs.declared.edit.Alone.{Alone}
 
 module _ (r : List ℕ) where
   pub empty : length r ≡ 0 → object_in r ≡ refused 3

@@ -1,25 +1,22 @@
 -- The steps of an edit: each refusal in its turn, then the object's own entry and start are put.
-use Prim.Native.Nat.{ℕ, ◌+◌, ◌≤◌, ◌<◌}
+use Prim.Native.Nat.{ℕ, ◌≤◌, ◌<◌}
 use mathlib.Core.Path.{◌≡◌, refl, sym, ap, ap₂, ◌∙◌, subst}
-use mathlib.Core.Bool.{Bool, true, false}
+use mathlib.Core.Bool.{true}
 use mathlib.Core.List.{List, [], ◌∷◌}
 use native.Mathlib.Omega.{arith}
 use borrow.Author.Tests.{lt-leb, le-leb}
-use lib.Dec.{leb, ltb}
 use lib.Ieee.{Float}
-use lib.ListN.{length}
 use Rattle.rules.specs.Limits.{max_bonus}
 use Rattle.numbers.specs.Words.{word_at}
-use Rattle.rules.specs.Refusals.{Checked, good, refused, ◌>>=◌, ◌>>◌, refuse◌when◌}
-use Rattle.records.specs.Objects.{Object, Kind, kind_view, object_view, bonus, kind_bonus}
-use Rattle.records.specs.Records.{Content, header, break, object, play, FoundRecord, object_of}
+use Rattle.rules.specs.Refusals.{Checked, good, refused, ◌>>=◌}
+use Rattle.records.specs.Objects.{Object, object_view, bonus}
+use Rattle.records.specs.Records.{Content, header, break, object, play, object_of}
 use Rattle.records.specs.declared.hit_object.HitObject.{HitObject}
 use Rattle.rules.proofs.Laws.{never}
-use Rattle.rules.proofs.All.{All, none, that, all_out}
+use Rattle.rules.proofs.All.{All, all_out}
 use Rattle.encoding.specs.Limits.{ObjectWithin, Each, one}
 use Rattle.encoding.specs.Limits as limits
 use Rattle.encoding.proofs.Accepted.{object_within}
-use Rattle.simulator.specs.Limits.{nested_count}
 use Rattle.entries.specs.Entry.{entry_of, in_limits, own_entry}
 use Rattle.entries.proofs.Accepted.{entry_within, object_bonus}
 use Rattle.entries.proofs.Runs.{entry_own}

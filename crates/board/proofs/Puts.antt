@@ -1,6 +1,6 @@
 -- An entry and a start at a place: what the climb answered, with the start put or left.
 use Prim.Native.Nat.{ℕ, ◌+◌}
-use mathlib.Core.Path.{◌≡◌, refl, sym, ap, ap₂, ◌∙◌}
+use mathlib.Core.Path.{◌≡◌, ap, ap₂}
 use mathlib.Core.List.{List}
 use lib.Ieee.{Float}
 use lib.ListN.{set}
@@ -9,7 +9,6 @@ use Rattle.rules.proofs.Laws.{never}
 use Rattle.entries.specs.declared.entry.Entry.{Entry}
 use Rattle.tree.specs.Put.{climbed, put_of, or_else}
 use Rattle.tree.specs.declared.size.Size.{Size}
-use Rattle.tree.specs.declared.put.Put.{Put}
 use Rattle.tree.specs.declared.put.Put.TheVariants as put
 use Rattle.board.specs.Place.{put_place, put_left}
 

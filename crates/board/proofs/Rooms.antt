@@ -1,6 +1,6 @@
 -- What the measuring of the lent slices answers, and what it leaves known.
 use Prim.Native.Nat.{ℕ, ◌*◌, ◌≤◌, ◌<◌}
-use mathlib.Core.Path.{◌≡◌, refl, sym, ap, ◌∙◌}
+use mathlib.Core.Path.{◌≡◌, refl, sym, ap}
 use mathlib.Core.Bool.{Bool, true, false}
 use mathlib.Core.List.{List}
 use borrow.Author.Tests.{lt-ltb, le-ltb, ltb-false}
@@ -14,7 +14,6 @@ use Rattle.rules.proofs.Laws.{never}
 use Rattle.tree.specs.Size.{levels_of, cap_of}
 use Rattle.tree.specs.declared.size.Size.{Size}
 use Rattle.board.specs.Place.{room_for, room_of, Holds}
-use Rattle.board.specs.declared.place.Room.{Room}
 use Rattle.board.specs.declared.place.Room.TheVariants as room
 
 module _ (b : List ℕ) (ts : List Float) (n : ℕ) where

@@ -14,7 +14,7 @@ use Rattle.entries.specs.Scores.{unsound}
 use Rattle.entries.specs.Words.{entry_at}
 use Rattle.entries.specs.declared.entry.Entry.{Entry}
 use Rattle.tree.specs.Size.{levels_of}
-use Rattle.tree.specs.Limited.{limited, after_of, combined_of}
+use Rattle.tree.specs.Limited.{limited, after_of}
 use Rattle.tree.specs.First.{walked}
 use Rattle.tree.proofs.Climbs.{limited_in}
 use Rattle.board.specs.Search.{time_bad, starts_in, starts_found, found_of, search_of}

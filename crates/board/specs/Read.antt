@@ -1,11 +1,9 @@
 -- Document 01, "What a caller gets": a read checks 6 and 11, then "its settings and breaks, starts and ends in turn, an odd count 4, then 8", then
 -- "13 and 7 entry by entry as read, and .. at last 9 ..".
-use Rattle.std.specs.Prelude.{ℕ, ◌%◌, min, ◌*◌, Bool, true, false, not, ◌&&◌, ◌||◌, List, [], ◌∷◌, eqb, ltb, ℤ, pos, Float, length}
-use Rattle.std.specs.Float.{binary32}
-use Rattle.std.specs.Float.Ieee.{of_bits, le}
+use Rattle.std.specs.Prelude.{ℕ, ◌%◌, min, ◌*◌, Bool, false, not, ◌||◌, List, [], ◌∷◌, eqb, ltb, ℤ, pos, Float, length}
 use Rattle.records.specs.Fields.{is_setting}
 use Rattle.rules.specs.Limits.{max_breaks}
-use Rattle.rules.specs.Refusals.{Checked, good, refused, ◌>>=◌, ◌>>◌, refuse◌when◌, pick, RANGE, COUNT, PLAY_FIELD}
+use Rattle.rules.specs.Refusals.{Checked, ◌>>=◌, ◌>>◌, refuse◌when◌, pick, RANGE, COUNT, PLAY_FIELD}
 use Rattle.records.specs.declared.beatmap.Settings.{Settings}
 use Rattle.play_state.specs.declared.Play.{Play}
 use Rattle.ruleset.specs.Drain.{drain_of, breaks_length, breaks_of}

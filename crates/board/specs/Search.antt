@@ -1,8 +1,7 @@
 -- Document 01, "The board": "A read of p passed objects reads the largest entries that together cover just the first p places, from the left, then
 -- the starts of the first and last object".
-use Rattle.std.specs.Prelude.{ℕ, ◌+◌, ◌-◌, Bool, not, ◌&&◌, List, eqb, Float, get_or}
+use Rattle.std.specs.Prelude.{ℕ, ◌+◌, ◌-◌, Bool, not, List, eqb, Float, get_or}
 use Rattle.std.specs.Float.{nan}
-use Rattle.std.specs.Float.Ieee.{neg, le}
 use Rattle.numbers.specs.Floats.{whole}
 use Rattle.rules.specs.Refusals.{Checked, good, refused, ◌>>=◌, ◌>>◌, refuse◌when◌, pick, BOARD}
 use Rattle.records.specs.Fields.{is_time}

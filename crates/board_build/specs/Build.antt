@@ -2,7 +2,7 @@
 -- table; "Lent numbers beyond 26 × C words or the object count stay".
 use Rattle.std.specs.Prelude.{ℕ, ◌*◌, List, ◌++◌, Float, length, drop}
 use Rattle.entries.specs.Entry.{place_words}
-use Rattle.rules.specs.Refusals.{Checked, good, refused, ◌>>◌}
+use Rattle.rules.specs.Refusals.{Checked, good, ◌>>◌}
 use Rattle.records.specs.Objects.{Object}
 use Rattle.scoring.specs.Scores.{Outcome, refusal, values, Scores}
 use Rattle.tree.specs.Size.{cap_of}

@@ -1,9 +1,9 @@
 -- An edit of the board of an accepted map with its count: the changed map's board and start table where that map is accepted, and else the right
 -- refusal with both as they were.
-use Prim.Native.Nat.{ℕ, zero, suc, ◌+◌, ◌*◌, ◌≤◌, ◌<◌}
-use mathlib.Core.Path.{◌≡◌, refl, sym, ap, ap₂, ◌∙◌, subst}
+use Prim.Native.Nat.{ℕ, zero, suc, ◌+◌, ◌≤◌, ◌<◌}
+use mathlib.Core.Path.{◌≡◌, refl, sym, ap, ◌∙◌}
 use mathlib.Core.Bool.{Bool, true, false, not, cond}
-use mathlib.Core.List.{List, [], ◌∷◌, ◌++◌, map}
+use mathlib.Core.List.{List, [], ◌∷◌, ◌++◌}
 use native.Mathlib.Nat.{not-suc-le-zero, le_of_suc-le-suc}
 use native.Mathlib.Omega.{arith}
 use native.Mathlib.Decide.{dec_lt}
@@ -27,7 +27,7 @@ use Rattle.board.specs.declared.place.Written.{Written}
 use Rattle.board.specs.declared.place.Written.TheVariants as written
 use Rattle.board.proofs.Rooms as rooms
 use Rattle.board.proofs.Edits as edits
-use Rattle.demands.specs.Calls.{is_accepted, changed, Lent, lent_for, put_if_accepted, record_answer, edit_answer}
+use Rattle.demands.specs.Calls.{is_accepted, changed, put_if_accepted, record_answer, edit_answer}
 use Rattle.demands.proofs.Maps.{by_bonus}
 
 -- one start changed

@@ -15,7 +15,7 @@ use Rattle.numbers.specs.Floats.{whole}
 use Rattle.numbers.proofs.Bounds.{plain}
 use Rattle.numbers.proofs.Order.{whole_le, le_of_not_lt}
 use Rattle.numbers.proofs.Intervals.{whole-at_least, of_tests_between, wider, between_below}
-use Rattle.rules.specs.Refusals.{Checked, good, refused, refuse◌when◌, pick, FACTOR}
+use Rattle.rules.specs.Refusals.{Checked, good, refused, pick, FACTOR}
 use Rattle.rules.proofs.Laws.{never}
 use Rattle.play_state.specs.declared.Play.{Play}
 use Rattle.records.specs.declared.beatmap.Settings.{Settings}

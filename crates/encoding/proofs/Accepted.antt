@@ -1,25 +1,25 @@
 -- The map of every accepted file is within the limits: each check of a record asks for just that of its content.
-use mathlib.Core.Path.{◌≡◌, refl, sym, ap, ◌∙◌, subst}
-use mathlib.Core.Bool.{Bool, true, false, ◌&&◌}
+use mathlib.Core.Path.{◌≡◌, refl, ap, ◌∙◌}
+use mathlib.Core.Bool.{Bool, true, false}
 use mathlib.Core.List.{List, [], ◌∷◌, ◌++◌}
-use Prim.Native.Nat.{ℕ, zero, suc, ◌+◌, ◌≤◌, ◌<◌, min}
+use Prim.Native.Nat.{ℕ, zero, suc, ◌≤◌, ◌<◌}
 use native.Mathlib.Omega.{arith}
 use borrow.Author.Tests.{ltb-false, eqb-false}
-use lib.Dec.{T, eqb, ltb, lit<}
+use lib.Dec.{eqb, ltb}
 use lib.ListN.{length, take, drop, length-take}
-use lib.Ieee.{Float, Format, binary32, binary64, of_bits, neg, le}
+use lib.Ieee.{Float, binary32, binary64, of_bits, le}
 use lib.Ieee.Bits.{of_bits-fits}
 use Rattle.encoding.proofs.FieldBytes.{double_within}
 use Rattle.rules.specs.Limits.{max_nested, max_breaks, max_objects, max_bonus}
 use Rattle.numbers.specs.Words.{word_at}
-use Rattle.rules.specs.Refusals.{Checked, good, refused, ◌>>=◌, pick}
+use Rattle.rules.specs.Refusals.{good, refused, pick}
 use Rattle.records.specs.Fields.{timed, set, setting_of}
-use Rattle.records.specs.Objects.{Item, circle, slider, spinner, Object, bonus, kind_bonus}
+use Rattle.records.specs.Objects.{bonus}
 use Rattle.records.specs.Records.{Content, header, break, object, play, FoundRecord, CI, SL, SP, header_of, break_of, circle_of, nested_of, slider_of, spinner_of, play_of, object_of, content_view}
-use Rattle.map_file.specs.Order.{MH, BR, PL, body_of, record_of, content_bonus}
-use Rattle.map_file.specs.File.{Map, File, Result, accepted, refused_at, counts_of, with_record, follow, ended, file_from, nothing_read, file_of}
+use Rattle.map_file.specs.Order.{MH, BR, PL, body_of, record_of}
+use Rattle.map_file.specs.File.{File, Result, accepted, refused_at, counts_of, with_record, follow, ended, file_from, nothing_read, file_of}
 use Rattle.map_file.specs.View.{Fits}
-use Rattle.encoding.specs.Limits.{Within, IsTime, IsSetting, IsDuration, Each, none, one, SettingsWithin, BreakWithin, ObjectWithin, MapWithin}
+use Rattle.encoding.specs.Limits.{Within, IsSetting, Each, none, one, SettingsWithin, BreakWithin, ObjectWithin, MapWithin}
 use Rattle.map_file.specs.declared.file.Counts.{Counts}
 use Rattle.encoding.proofs.RecordsBack.{nested_length}
 use Rattle.encoding.proofs.Written.{timed_all, nested_are}

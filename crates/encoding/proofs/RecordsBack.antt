@@ -1,24 +1,23 @@
 -- Each record that was written is read back as it was, whatever follows it.
-use mathlib.Core.Path.{◌≡◌, refl, sym, ap, ◌∙◌, subst}
+use mathlib.Core.Path.{◌≡◌, refl, ap, ◌∙◌}
 use mathlib.Core.Bool.{Bool, true, false, not, ◌&&◌, ◌||◌}
 use mathlib.Core.List.{List, [], ◌∷◌, ◌++◌, append_assoc}
-use Prim.Native.Nat.{ℕ, zero, suc, ◌+◌, ◌-◌, ◌*◌, ◌≤◌, ◌<◌, ◌^◌}
+use Prim.Native.Nat.{ℕ, ◌+◌, ◌≤◌, ◌<◌, ◌^◌}
 use native.Mathlib.Omega.{arith}
-use borrow.Author.Tests.{lt-ltb, le-ltb}
-use lib.Dec.{T, eqb, ltb, lit<}
+use borrow.Author.Tests.{le-ltb}
+use lib.Dec.{T, ltb, lit<}
 use lib.ListN.{length, take, drop, length-append}
 use lib.Seq.{take_at, drop_at}
-use lib.Ieee.{Float, Format, binary32, binary64, top, fits, of_bits, to_bits, lt, le}
+use lib.Ieee.{Float, binary32, binary64, fits, of_bits, to_bits, lt, le}
 use Rattle.rules.specs.Limits.{max_nested}
-use Rattle.numbers.specs.Words.{word_at, bytes_of}
 use Rattle.numbers.proofs.bits.Laws.{written_read, written_lt}
-use Rattle.rules.specs.Refusals.{Checked, good, refused, ◌>>=◌, ◌>>◌, refuse◌when◌, pick}
-use Rattle.records.specs.Fields.{time_limit, time_of, duration_of, setting_of, played}
-use Rattle.records.specs.Objects.{Item, tick, repeat, circle, slider, spinner, Object}
-use Rattle.records.specs.Records.{header, break, object, play, FoundRecord, CI, SL, SP, header_of, break_of, circle_of, item_of, nested_of, slider_of, spinner_of, object_of, play_of}
-use Rattle.encoding.specs.Limits.{Within, IsTime, IsSetting, IsDuration, SettingsWithin, BreakWithin, KindWithin, ObjectWithin, ScoreWithin, PlaySized, PlayWithin}
+use Rattle.rules.specs.Refusals.{Checked, good, ◌>>=◌, ◌>>◌, refuse◌when◌, pick}
+use Rattle.records.specs.Fields.{setting_of, played}
+use Rattle.records.specs.Objects.{Item, tick, repeat, circle, slider, spinner}
+use Rattle.records.specs.Records.{header, break, object, play, header_of, break_of, circle_of, item_of, nested_of, slider_of, spinner_of, play_of}
+use Rattle.encoding.specs.Limits.{Within, IsTime, IsSetting, IsDuration, SettingsWithin, BreakWithin, ScoreWithin, PlaySized, PlayWithin}
 use Rattle.play_state.specs.Play.{origin_of, score_of, flags_bad, hitresults_of}
-use Rattle.encoding.specs.Encoding.{fields_of, header_fields, break_fields, circle_fields, slider_fields, spinner_fields, play_fields, origin_byte, present_byte, score_number, item_byte, nested_bytes, header_bytes, break_bytes, object_bytes, play_bytes}
+use Rattle.encoding.specs.Encoding.{fields_of, header_fields, break_fields, circle_fields, slider_fields, spinner_fields, play_fields, origin_byte, present_byte, score_number, item_byte, nested_bytes, header_bytes, break_bytes, play_bytes}
 use Rattle.records.specs.declared.beatmap.Settings.{Settings}
 use Rattle.records.specs.declared.beatmap.BreakPeriod.{BreakPeriod}
 use Rattle.play_state.specs.declared.OsuScoreOrigin.{OsuScoreOrigin}
@@ -30,7 +29,7 @@ use Rattle.play_state.specs.declared.Score.TheVariants as score
 use Rattle.play_state.specs.declared.Play.{Play}
 use Rattle.records.specs.declared.fields.Double.TheVariants as double
 use Rattle.records.specs.declared.fields.Single.TheVariants as single
-use Rattle.encoding.proofs.FieldBytes.{Fit, field_at, begins, widths, fields_length, field_back, double_within}
+use Rattle.encoding.proofs.FieldBytes.{Fit, widths, fields_length, field_back, double_within}
 
 -- ---- floats
 -- a float's bits fit its field

@@ -1,10 +1,9 @@
 -- The file of every map within the limits, with plays within theirs behind it, is read back as that map and those plays: each record is found
 -- in its turn, and what was read grows by it.
 use mathlib.Core.Path.{◌≡◌, refl, sym, ap, ap₂, ◌∙◌, subst}
-use mathlib.Core.Bool.{Bool, true, false, ◌&&◌}
+use mathlib.Core.Bool.{true, false}
 use mathlib.Core.List.{List, [], ◌∷◌, ◌++◌, append_assoc, append-nil}
-use Prim.Native.Nat.{ℕ, zero, suc, ◌+◌, ◌-◌, ◌≤◌, ◌<◌, ◌^◌}
-use native.Mathlib.Nat.{add-zero}
+use Prim.Native.Nat.{ℕ, suc, ◌+◌, ◌≤◌, ◌<◌}
 use native.Mathlib.Omega.{arith}
 use borrow.Author.Tests.{lt-ltb, le-ltb, lt-leb, le-leb, ne_eqb}
 use lib.Dec.{lit<}
@@ -12,12 +11,12 @@ use lib.ListN.{length, drop, length-append, length-drop}
 use lib.Seq.{drop-drop, drop_at}
 use Rattle.rules.specs.Limits.{max_bonus, max_breaks, max_objects}
 use Rattle.numbers.specs.Words.{word_at}
-use Rattle.rules.specs.Refusals.{Checked, good, refused, ◌>>=◌, ◌>>◌, refuse◌when◌}
+use Rattle.rules.specs.Refusals.{good, refused, ◌>>=◌, ◌>>◌, refuse◌when◌}
 use Rattle.records.specs.Objects.{circle, slider, spinner, Kind, Object, bonus, kind_bonus}
-use Rattle.records.specs.Records.{Content, header, break, object, play, FoundRecord, CI, SL, SP, object_of, play_of}
+use Rattle.records.specs.Records.{Content, header, break, object, play, CI, SL, SP, object_of, play_of}
 use Rattle.map_file.specs.Order.{MH, BR, PL, rank_of, in_order, is_full, content_bonus, body_of, record_of}
-use Rattle.map_file.specs.File.{Map, File, accepted, refused_at, counts_of, with_record, ended, nothing_read, file_of}
-use Rattle.encoding.specs.Limits.{Each, none, one, SettingsWithin, BreakWithin, KindWithin, ObjectWithin, MapWithin, PlayWithin}
+use Rattle.map_file.specs.File.{Map, File, accepted, refused_at, counts_of, with_record, nothing_read, file_of}
+use Rattle.encoding.specs.Limits.{Each, one, SettingsWithin, BreakWithin, KindWithin, ObjectWithin, MapWithin, PlayWithin}
 use Rattle.encoding.specs.Encoding.{fields_of, header_fields, break_fields, circle_fields, slider_fields, spinner_fields, play_fields, nested_bytes, kind_bytes, header_bytes, break_bytes, object_bytes, play_bytes, each, map_file}
 use Rattle.records.specs.declared.beatmap.Settings.{Settings}
 use Rattle.records.specs.declared.beatmap.BreakPeriod.{BreakPeriod}

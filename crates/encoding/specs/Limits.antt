@@ -1,10 +1,10 @@
 -- The maps and plays within document 01's limits: those whose file the library accepts (proofs/RoundTrip and proofs/Accepted).
-use Rattle.std.specs.Prelude.{ℕ, ◌+◌, ◌≤◌, ◌<◌, ◌^◌, ◌≡◌, Bool, true, false, List, [], ◌∷◌, T, length, Float}
+use Rattle.std.specs.Prelude.{◌+◌, ◌≤◌, ◌<◌, ◌^◌, ◌≡◌, true, false, List, [], ◌∷◌, T, length, Float}
 use Rattle.std.specs.Float.{Format, binary32, binary64}
 use Rattle.std.specs.Float.Ieee.{fits, of_bits, neg, lt, le}
 use Rattle.rules.specs.Limits.{max_nested, max_breaks, max_objects, max_bonus}
 use Rattle.records.specs.Fields.{time_limit, setting_limit, duration_limit, rate_limit}
-use Rattle.records.specs.Objects.{Item, Kind, circle, slider, spinner, Object, bonus}
+use Rattle.records.specs.Objects.{Kind, circle, slider, spinner, Object, bonus}
 use Rattle.play_state.specs.Play.{flags_bad}
 use Rattle.map_file.specs.File.{Map}
 use Rattle.records.specs.declared.beatmap.Settings.{Settings}

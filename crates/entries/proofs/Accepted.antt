@@ -14,7 +14,7 @@ use Rattle.numbers.specs.Floats.{whole}
 use Rattle.numbers.proofs.Bounds.{Upto, of_tests}
 use Rattle.spinner.specs.HalfSpins.{total_half_spins, required_half_spins}
 use Rattle.spinner.specs.Bonus.{is_large, is_small, half_spin_points, legacy_of, standardised_of}
-use Rattle.records.specs.Objects.{Object, Kind, circle, slider, spinner, repeats, ticks, kind_bonus, bonus}
+use Rattle.records.specs.Objects.{Object, Kind, circle, slider, spinner, kind_bonus, bonus}
 use Rattle.encoding.specs.Limits.{Each, none, one, IsDuration, KindWithin, ObjectWithin}
 use Rattle.simulator.specs.Combo.{gain, gain_before, combos_before_of, first_no_slider_of}
 use Rattle.simulator.proofs.Bonus.{legacy_hour, nested_hour}

@@ -1,13 +1,13 @@
 -- The bridge from the words to ScoreV1: the state and the counts that the words of a run say are those of the walk over its objects. Assumes nothing.
-use Prim.Native.Nat.{ℕ, zero, suc, ◌+◌, ◌-◌, ◌*◌}
-use mathlib.Core.Path.{◌≡◌, refl, sym, ap, ◌∙◌}
+use Prim.Native.Nat.{ℕ, ◌+◌}
+use mathlib.Core.Path.{◌≡◌, refl, ap, ◌∙◌}
 use mathlib.Core.List.{List, [], ◌∷◌}
 use native.Mathlib.Omega.{arith}
 use lib.ListN.{length}
-use Rattle.records.specs.Objects.{Object, Kind, circle, slider, spinner, repeats, ticks, kind_bonus, bonus}
+use Rattle.records.specs.Objects.{Object, Kind, circle, slider, spinner}
 use Rattle.simulator.specs.Hits.{hits_of}
 use Rattle.simulator.specs.Walk.{State, fresh, walk, after}
-use Rattle.simulator.specs.Combo.{gain, combos_before_of, first_no_slider_of}
+use Rattle.simulator.specs.Combo.{gain}
 use Rattle.simulator.specs.Nested.{no_object, counted, counted_all}
 use Rattle.simulator.specs.declared.legacy_score.NestedScorePerObject.{NestedScorePerObject}
 use Rattle.simulator.proofs.States.{nested_same, state_same}

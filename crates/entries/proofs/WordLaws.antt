@@ -1,14 +1,13 @@
 -- Entries as words of a list: what is read after a store, and a list as the words of its entries.
-use Prim.Native.Nat.{ℕ, zero, suc, ◌+◌, ◌-◌, ◌*◌, ◌/◌, ◌≤◌, ◌<◌}
-use mathlib.Core.Path.{◌≡◌, refl, sym, ap, ◌∙◌, subst}
+use Prim.Native.Nat.{ℕ, zero, suc, ◌+◌, ◌*◌, ◌≤◌, ◌<◌}
+use mathlib.Core.Path.{◌≡◌, refl, sym, ap, ◌∙◌}
 use mathlib.Core.Logic.{◌≢◌}
 use mathlib.Core.List.{List, [], ◌∷◌, ◌++◌, append_assoc}
 use native.Mathlib.Omega.{arith}
-use native.Mathlib.Nat.{add-zero, zero-add, add-suc, suc-add, not-suc-le-zero, le_of_suc-le-suc, ne_of_lt, ne_of_gt, zero-mul, suc-mul}
-use native.Mathlib.Numerals.{add-one, towards_suc}
+use native.Mathlib.Nat.{add-zero, add-suc, suc-add, not-suc-le-zero, le_of_suc-le-suc, ne_of_lt, ne_of_gt}
+use native.Mathlib.Numerals.{add-one}
 use native.Mathlib.Decide.{dec_lt}
-use lib.Dec.{lit<}
-use lib.ListN.{length, get_or, take, drop, set, length-set, length-append, length-drop, take-append-drop}
+use lib.ListN.{length, get_or, take, drop, set, length-set, length-drop, take-append-drop}
 use lib.Seq.{sets, length-sets, get_or-set_same, get_or-set_other, get_or-drop, drop-drop, drop-set-lt, set_comm}
 use Rattle.entries.specs.Entry.{words_of, entry_words}
 use Rattle.entries.specs.Words.{entry_at, put_entry, puts, rest_of, words_from}

@@ -1,5 +1,5 @@
 -- What the words of an entry say of its objects' score: the running state behind them, at multiplier 1, and their counts.
-use Rattle.std.specs.Prelude.{ℕ, ◌+◌, ◌-◌, ◌*◌, Bool, ◌||◌, ltb}
+use Rattle.std.specs.Prelude.{◌+◌, ◌-◌, ◌*◌, Bool, ◌||◌, ltb}
 use Rattle.simulator.specs.Walk.{State}
 use Rattle.simulator.specs.declared.legacy_score.NestedScorePerObject.{NestedScorePerObject}
 use Rattle.entries.specs.declared.entry.Entry.{Entry}

@@ -1,14 +1,12 @@
 -- The effective miss count lies from the misses to the judgements: it is held from below by a max, then from above by a min.
 use mathlib.Core.Path.{◌≡◌}
 use mathlib.Core.Bool.{true}
-use Prim.Native.Nat.{ℕ, ◌+◌, ◌^◌, ◌≤◌, ◌<◌}
+use Prim.Native.Nat.{◌≤◌}
 use native.Mathlib.Omega.{arith}
 use lib.Ieee.{Float, le}
 use Rattle.numbers.specs.Floats.{whole}
-use Rattle.numbers.specs.MinMax.{max_of, min_of}
 use Rattle.numbers.proofs.Order.{max_above, min_below, min_above, whole-number, whole_le}
 use Rattle.play_state.specs.declared.OsuHitResults.{OsuHitResults}
-use Rattle.play_state.specs.declared.Play.{Play}
 use Rattle.miss_calc.specs.Counts.{total_hits}
 use Rattle.estimates.specs.Effective.{held_of, effective_of}
 use Rattle.miss_calc.specs.declared.legacy_score_miss_calc.MissCount.{MissCount}

@@ -1,5 +1,5 @@
 -- Document 01, "Estimates": "Accuracy is `OsuHitResults::accuracy`", each operation rounded once, in the Rust's order.
-use Rattle.std.specs.Prelude.{ℕ, ◌+◌, ◌*◌, ◌^◌, min, Bool, cond, Float}
+use Rattle.std.specs.Prelude.{ℕ, ◌+◌, ◌*◌, ◌^◌, min, cond, Float}
 use Rattle.std.specs.Float.Ieee.{neg, lt, le}
 use Rattle.numbers.specs.Floats.{whole, part, ◌⊕◌, ◌⊖◌, ◌⊗◌, ◌⊘◌}
 use Rattle.miss_calc.specs.Counts.{total_hits}

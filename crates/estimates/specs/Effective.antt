@@ -1,5 +1,5 @@
 -- `effective_miss_count` before the relax part, and all that a play is told.
-use Rattle.std.specs.Prelude.{ℕ, Bool, true, false, cond, eqb, Float}
+use Rattle.std.specs.Prelude.{eqb, Float}
 use Rattle.numbers.specs.Floats.{whole}
 use Rattle.numbers.specs.MinMax.{max_of, min_of}
 use Rattle.rules.specs.Refusals.{pick}

@@ -1,5 +1,6 @@
 // `exp` by document 02's steps: a series of eight terms at v / 1024, then ten squarings.
 #![tactic(auto)]
+
 ghost use Rattle.std.specs.Prelude.{◌≡◌};
 ghost use Rattle.numbers.specs.Floats.{whole};
 ghost use Rattle.exponential.specs.Exp.{series_of, squared, exp_of};

@@ -13,7 +13,6 @@ use Rattle.play_state.specs.Play.{origin_of, flags_bad}
 use Rattle.records.specs.declared.beatmap.Settings.{Settings}
 use Rattle.play_state.specs.declared.Origin.{Origin}
 use Rattle.play_state.specs.declared.Origin.TheVariants as origin
-use Rattle.play_state.specs.declared.Score.{Score}
 use Rattle.play_state.specs.declared.Score.TheVariants as score
 use Rattle.simulator.specs.declared.attributes.ScoreAttributes.{ScoreAttributes}
 use Rattle.play_score.specs.PlayRules.{mods_bad, given_answer, given_score}

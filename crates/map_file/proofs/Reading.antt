@@ -14,7 +14,7 @@ use Rattle.records.specs.Objects.{Object, bonus, kind_bonus}
 use Rattle.records.specs.Records.{Content, header, break, object, play, FoundRecord}
 use Rattle.map_file.specs.Order.{record_of}
 use Rattle.map_file.specs.File.{File, accepted, refused_at, counts_of, with_record, ended, file_from, nothing_read, file_of}
-use Rattle.rules.proofs.All.{that, all_out}
+use Rattle.rules.proofs.All.{all_out}
 use Rattle.map_file.proofs.Local.{record_in}
 use Rattle.map_file.proofs.Room.{place_of, record_ordered}
 use Rattle.map_file.proofs.Sizes.{Sized, record_sized}

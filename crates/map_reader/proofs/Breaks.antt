@@ -21,7 +21,7 @@ use Rattle.map_file.specs.File.{File, counts_of, with_record, nothing_read, refu
 use Rattle.map_file.specs.View.{Fits, fresh_of}
 use Rattle.map_file.proofs.Reading.{Chain, chain_inside, start, longer, on_start, on_stop, on_end, found_at, length_snoc}
 use Rattle.map_file.proofs.Room.{record_fits, Begun, record_begun}
-use Rattle.map_reader.specs.Map.{objects_from, head_with, head_of, head_in, is_good, is_break, breaks_after, breaks_count, is}
+use Rattle.map_reader.specs.Map.{objects_from, head_with, head_of, head_in, is_good, is_break, breaks_after, breaks_count}
 use Rattle.map_reader.specs.declared.map.Head.TheVariants as head
 use Rattle.map_reader.proofs.Records.{break_good, found_break}
 use Rattle.map_reader.proofs.Files.{chain_standing, NoBreak}

@@ -2,14 +2,13 @@
 use mathlib.Core.Path.{◌≡◌, refl, sym, ap, ◌∙◌, subst}
 use mathlib.Core.Bool.{Bool, true, false}
 use mathlib.Core.List.{List, [], ◌∷◌, ◌++◌}
-use Prim.Native.Nat.{ℕ, zero, suc, ◌+◌, ◌-◌, ◌≤◌, ◌<◌, min}
+use Prim.Native.Nat.{ℕ, zero, suc, ◌-◌, ◌≤◌, ◌<◌, min}
 use native.Mathlib.Omega.{arith}
 use borrow.Author.Tests.{lt-ltb, eqb-true, eqb-false, leb-true, leb-false, ne_eqb}
 use lib.Dec.{eqb, leb}
 use lib.Ieee.{binary64, of_bits}
 use lib.ListN.{length, take, drop}
 use lib.Seq.{take_all}
-use Rattle.numbers.specs.Floats.{whole}
 use Rattle.numbers.specs.Words.{word_at}
 use Rattle.numbers.proofs.words.Laws.{word_at-drop}
 use Rattle.rules.specs.Limits.{max_objects}

@@ -1,10 +1,9 @@
 -- `OsuLegacyScoreMissCalculator`: the misses that a ScoreV1 score tells of, in the source's order.
-use Rattle.std.specs.Prelude.{ℕ, ◌+◌, ◌-◌, ◌*◌, Bool, cond, eqb, Float}
+use Rattle.std.specs.Prelude.{ℕ, ◌-◌, ◌*◌, cond, eqb, Float}
 use Rattle.std.specs.Float.Ieee.{neg, lt, le}
 use Rattle.numbers.specs.Floats.{whole, ◌⊕◌, ◌⊖◌, ◌⊗◌, ◌⊘◌}
 use Rattle.numbers.specs.MinMax.{max_of, min_of}
 use Rattle.square_root.specs.Roots.{power_of}
-use Rattle.rules.specs.Refusals.{pick}
 use Rattle.play_state.specs.declared.LegacyTotalScore.{LegacyTotalScore}
 use Rattle.play_state.specs.declared.LegacyTotalScore.TheVariants.{Absent, Present}
 use Rattle.simulator.specs.declared.attributes.OsuDifficultyAttributes.{OsuDifficultyAttributes}

@@ -1,5 +1,5 @@
 -- The order of floats that are numbers is total, and goes with that of the whole numbers. So Rust's max and min give the larger and the smaller.
-use Rattle.std.proofs.Common.{◌≡◌, ℕ, ◌+◌, ◌*◌, ◌^◌, ◌<◌, ◌≤◌, Bool, true, false, cond, not, ◌&&◌, ◌||◌, T, eqb, ltb, pos, sym, refl, subst, arith, lit<, ltb-false, ltb-true, le-ltb, lt-ltb, eq-eqb, eqb-true}
+use Rattle.std.proofs.Common.{◌≡◌, ℕ, ◌+◌, ◌*◌, ◌^◌, ◌≤◌, Bool, true, false, ◌&&◌, ◌||◌, T, eqb, ltb, sym, refl, subst, arith, lit<, ltb-false, le-ltb, eq-eqb}
 use lib.Ieee.{Float, nan, inf, fin, binary64, up, down, lt, eq, le, is_nan, of_int, below, level}
 use lib.Ieee.Exact.{HasValue}
 use lib.Ieee.Order.{round_mono}

@@ -1,8 +1,8 @@
 -- Document 01, "Records of the map file" and "What a caller gets": what a play is refused for on its map (9, and 8 of a play that is no record),
 -- and its score.
-use Rattle.std.specs.Prelude.{ℕ, Bool, not, ◌&&◌, ◌||◌, ltb}
+use Rattle.std.specs.Prelude.{Bool, not, ◌&&◌, ◌||◌, ltb}
 use Rattle.records.specs.Fields.{is_rate}
-use Rattle.rules.specs.Refusals.{Checked, good, refused, ◌>>=◌, ◌>>◌, refuse◌when◌, PLAY_FIELD, PLAY_EXCEEDS}
+use Rattle.rules.specs.Refusals.{Checked, good, refused, ◌>>◌, refuse◌when◌, PLAY_FIELD, PLAY_EXCEEDS}
 use Rattle.play_state.specs.Play.{flags_bad}
 use Rattle.play_state.specs.declared.GameMods.{GameMods}
 use Rattle.play_state.specs.declared.OsuHitResults.{OsuHitResults}

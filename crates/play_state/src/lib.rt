@@ -1,5 +1,6 @@
 // A play: its hits, origin, score and modifiers.
 #![tactic(auto)]
+
 ghost use Rattle.std.specs.Prelude.{◌≡◌, ◌<◌};
 ghost use Rattle.play_state.specs.Play.{origin_of, score_of, flag_at, flags_bad};
 

@@ -1,5 +1,5 @@
 -- Document 01, "Records of the map file": the ranges of the float fields. A value that is not a number is in no range.
-use Rattle.std.specs.Prelude.{ℕ, Bool, true, false, ◌&&◌, List, ltb, pos, length, Float}
+use Rattle.std.specs.Prelude.{ℕ, Bool, ◌&&◌, List, ltb, length, Float}
 use Rattle.std.specs.Float.{binary32, binary64}
 use Rattle.std.specs.Float.Ieee.{of_bits, neg, lt, le}
 use Rattle.rules.specs.Refusals.{Checked, good, refused, pick, RANGE, PLAY_FIELD}

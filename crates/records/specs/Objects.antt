@@ -1,5 +1,5 @@
 -- The objects of a map as data, and the counts that the code keeps of them.
-use Rattle.std.specs.Prelude.{ℕ, zero, suc, ◌+◌, List, [], ◌∷◌, Float}
+use Rattle.std.specs.Prelude.{ℕ, suc, ◌+◌, List, [], ◌∷◌, Float}
 use Rattle.spinner.specs.Bonus.{legacy_of}
 use Rattle.records.specs.declared.hit_object.Slider.{Slider}
 use Rattle.records.specs.declared.hit_object.HitObject.{HitObject}

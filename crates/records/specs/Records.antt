@@ -1,6 +1,6 @@
 -- Document 01, "Records of the map file": each record from its mark on, with its size. The checks stand in the document's order: fixed part
 -- cut (2), fixed fields in layout order (4 or 8, a nested count 6), nested list cut (2), nested list (5).
-use Rattle.std.specs.Prelude.{ℕ, ◌+◌, Bool, true, false, not, List, [], ◌∷◌, eqb, ltb, take, drop, Float}
+use Rattle.std.specs.Prelude.{ℕ, ◌+◌, List, [], ◌∷◌, eqb, ltb, take, drop}
 use Rattle.rules.specs.Limits.{max_nested, header_size, break_size, circle_size, slider_size, spinner_size, play_size}
 use Rattle.numbers.specs.Words.{word_at}
 use Rattle.rules.specs.Refusals.{Checked, good, refused, ◌>>=◌, ◌>>◌, refuse◌when◌, pick, CUT, MARK, NESTED, COUNT, PLAY_FIELD}

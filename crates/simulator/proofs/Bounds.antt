@@ -5,7 +5,7 @@ use native.Mathlib.Nat.{lt_of_le_of_lt, mul-le-mul}
 use lib.Dec.{lit<}
 use native.Mathlib.Omega.{arith}
 use Rattle.rules.specs.Limits.{max_objects, max_nested, max_combos_before}
-use Rattle.records.specs.Objects.{Kind, circle, slider, spinner, repeats, ticks, kind_view}
+use Rattle.records.specs.Objects.{Kind, circle, slider, spinner, kind_view}
 use Rattle.simulator.specs.Hits.{hits_of}
 use Rattle.simulator.specs.Walk.{State, fresh, walk}
 use Rattle.simulator.specs.Nested.{no_object, counted}

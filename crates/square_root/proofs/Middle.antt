@@ -1,6 +1,6 @@
 -- The middle between two doubles against a root, on whole numbers: the number is m * (P * P), q is the whole root of m, so that the root lies between q * P and
 -- (q + 1) * P, and the double is (q + 1) / 2 * (2 * P). Assumes nothing.
-use Rattle.std.proofs.Common.{◌≡◌, ℕ, ◌+◌, ◌-◌, ◌*◌, ◌/◌, ◌<◌, ◌≤◌, sym, subst, le_trans, le_of_eq, le_refl, lt_of_lt_of_le, lt_of_le_of_lt, le_of_lt, add-le-add, mul-le-mul_right, mul-le-mul, mul-le-mul_left, mul-lt-mul_of_pos_right, mul-pos, arith}
+use Rattle.std.proofs.Common.{◌≡◌, ℕ, ◌+◌, ◌*◌, ◌/◌, ◌<◌, ◌≤◌, sym, subst, le_trans, le_of_eq, le_refl, lt_of_lt_of_le, lt_of_le_of_lt, le_of_lt, add-le-add, mul-le-mul_right, mul-le-mul, mul-le-mul_left, mul-lt-mul_of_pos_right, mul-pos, arith}
 use native.Mathlib.Nat.{mul-lt-mul_of_pos_left}
 use Rattle.square_root.proofs.Isqrt.{IsRoot}
 

@@ -1,5 +1,6 @@
 // The square root of an f64, rounded once, and the power 2.5 that is made of it.
 #![tactic(auto)]
+
 ghost use Rattle.std.specs.Prelude.{◌≡◌, ◌+◌, ◌*◌, ◌^◌, ◌<◌, ◌≤◌};
 ghost use Rattle.square_root.specs.Roots.{rooted, root_of, power_of};
 

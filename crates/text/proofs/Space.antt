@@ -1,7 +1,7 @@
 -- Laws of a text in a space: two texts one behind the other are one text. Each goes by the space and the place, since `put_at` and `behind` step
 -- through both. Assumes nothing.
 use mathlib.Core.Path.{◌≡◌, ap, ◌∙◌}
-use Prim.Native.Nat.{ℕ, zero, suc, ◌+◌, ◌-◌, ◌≤◌, min}
+use Prim.Native.Nat.{ℕ, zero, suc, ◌≤◌}
 use native.Mathlib.Nat.{suc-add, zero-add, add-zero, sub-zero, zero-sub, suc-sub-suc, suc-min-suc, min-zero}
 use native.Mathlib.Omega.{arith}
 use mathlib.Core.List.{List, [], ◌∷◌, ◌++◌, append-nil}

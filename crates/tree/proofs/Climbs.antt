@@ -15,7 +15,6 @@ use Rattle.entries.specs.declared.entry.Entry.{Entry}
 use Rattle.tree.specs.Limited.{without_legacy, limited, combined_of}
 use Rattle.tree.specs.Put.{beside_of, above_of, climbed, put_of, or_else}
 use Rattle.tree.specs.declared.combine.Combined.TheVariants as combined
-use Rattle.tree.specs.declared.put.Put.{Put}
 use Rattle.tree.specs.declared.put.Put.TheVariants as put
 use Rattle.rules.proofs.Laws.{never}
 use Rattle.entries.proofs.Limits.{word_le}

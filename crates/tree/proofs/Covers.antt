@@ -2,19 +2,16 @@
 use Prim.Native.Nat.{ℕ, zero, suc, ◌+◌, ◌-◌, ◌*◌, ◌/◌, ◌%◌, ◌^◌, ◌≤◌, ◌<◌}
 use mathlib.Core.Path.{◌≡◌, refl, sym, ap, ap₂, ◌∙◌, subst}
 use mathlib.Core.Logic.{◌≢◌}
-use mathlib.Core.Bool.{Bool, true, false, cond}
 use mathlib.Core.List.{List, [], ◌∷◌, ◌++◌}
 use native.Mathlib.Omega.{arith}
 use native.Mathlib.Nat.{zero-mul, mul-one, add-mul, mul_assoc, pow-suc, le_trans, le_of_suc-le-suc, mul-le-mul_right, one-mul, add-sub_cancel_left, lt_of_lt_of_le, not-suc-le-zero, le-mul_of_pos_right}
 use native.Mathlib.Decide.{dec_le}
-use lib.Dec.{leb, ltb}
 use lib.Pow.{pow_pos}
 use lib.ListN.{length, take, drop, set}
 use lib.Seq.{take-add, drop-drop, take_all}
 use borrow.Author.Tests.{le-leb, lt-leb}
 use Rattle.records.specs.Objects.{Object}
 use Rattle.entries.specs.Entry.{joined, entry_of}
-use Rattle.entries.specs.declared.entry.Entry.{Entry}
 use Rattle.entries.proofs.Runs.{entry_append}
 use Rattle.tree.specs.Board.{covered, entry_in}
 

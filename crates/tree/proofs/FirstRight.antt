@@ -1,18 +1,18 @@
 -- A read of the board of a map finds the entry of the first p objects: the entries that it combines are those of neighbouring runs of places.
-use Prim.Native.Nat.{ℕ, zero, suc, ◌+◌, ◌-◌, ◌*◌, ◌/◌, ◌^◌, ◌≤◌, ◌<◌}
-use mathlib.Core.Path.{◌≡◌, refl, sym, ap, ap₂, ◌∙◌, subst}
-use mathlib.Core.Bool.{Bool, true, false, not}
-use mathlib.Core.List.{List, [], ◌∷◌, ◌++◌}
+use Prim.Native.Nat.{ℕ, zero, suc, ◌+◌, ◌-◌, ◌*◌, ◌^◌, ◌≤◌, ◌<◌}
+use mathlib.Core.Path.{◌≡◌, sym, ap, ap₂, ◌∙◌, subst}
+use mathlib.Core.Bool.{true}
+use mathlib.Core.List.{List}
 use native.Mathlib.Omega.{arith}
 use native.Mathlib.Nat.{add-zero, zero-add, add-suc, suc-add, add_comm, zero-mul, le_trans, pow-suc, mul_assoc, add-mul, one-mul, mul-one, mul-le-mul_right, le_of_mul-le-mul_right, zero-lt-suc}
 use native.Mathlib.Numerals.{sub-one, add-one}
-use native.Mathlib.Decide.{dec_le, ℕ_discrete}
+use native.Mathlib.Decide.{dec_le}
 use borrow.Author.Tests.{le-ltb}
 use lib.ListN.{take, drop, take-append-drop}
 use lib.Seq.{take-add}
 use lib.Pow.{pow_pos, pow-add, pow_mono}
 use Rattle.rules.specs.Limits.{max_bonus}
-use Rattle.rules.specs.Refusals.{Checked, good, refused, ◌>>◌, refuse◌when◌}
+use Rattle.rules.specs.Refusals.{good, ◌>>◌, refuse◌when◌}
 use Rattle.records.specs.Objects.{Object}
 use Rattle.entries.specs.Entry.{none, joined, entry_of, in_limits}
 use Rattle.entries.specs.Words.{entry_at}

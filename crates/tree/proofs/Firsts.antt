@@ -4,9 +4,9 @@ use mathlib.Core.Path.{◌≡◌, refl, sym, ap, ◌∙◌, subst}
 use mathlib.Core.Bool.{Bool, true, false, not, cond}
 use mathlib.Core.List.{List}
 use native.Mathlib.Omega.{arith}
-use native.Mathlib.Nat.{pow-suc, not-suc-le-zero, mul_assoc, mul-le-mul_left, le-mul_of_pos_right, le_trans, add-mul, one-mul}
+use native.Mathlib.Nat.{pow-suc, not-suc-le-zero, mul_assoc, mul-le-mul_left, le-mul_of_pos_right, add-mul, one-mul}
 use borrow.Author.Tests.{le-leb, lt-leb, ltb-true, ltb-false}
-use lib.Dec.{leb, ltb}
+use lib.Dec.{ltb}
 use lib.ListN.{length}
 use lib.Pow.{pow_pos}
 use Rattle.rules.specs.Limits.{max_objects}

@@ -4,18 +4,18 @@ use mathlib.Core.Path.{◌≡◌, refl, sym, ap, ◌∙◌, subst}
 use mathlib.Core.Bool.{Bool, true, false, not}
 use mathlib.Core.List.{List}
 use native.Mathlib.Omega.{arith}
-use native.Mathlib.Nat.{pow-suc, add-zero, add-suc, mul-one, mul_assoc, mul_comm, mul-div_cancel, le-mul_of_pos_right, le_trans, lt_of_lt_of_le, add-mul, one-mul}
+use native.Mathlib.Nat.{pow-suc, add-zero, mul-one, mul_assoc, mul_comm, mul-div_cancel, le-mul_of_pos_right, lt_of_lt_of_le, add-mul, one-mul}
 use native.Mathlib.Decide.{dec_lt}
 use borrow.Author.Tests.{lt-leb, le-ltb}
 use lib.ListN.{length}
 use lib.Pow.{pow_pos, pow_mono, pow-add}
 use Rattle.rules.specs.Limits.{max_levels, max_bonus}
-use Rattle.rules.specs.Refusals.{Checked, good, refused, ◌>>◌, refuse◌when◌}
+use Rattle.rules.specs.Refusals.{good, ◌>>◌, refuse◌when◌}
 use Rattle.entries.specs.Entry.{none, joined, in_limits, SumOf, entry_words, place_words}
 use Rattle.entries.specs.Words.{entry_at}
 use Rattle.entries.specs.declared.entry.Entry.{Entry}
 use Rattle.entries.proofs.Limits.{word_le, first_most, sum_of-none, sum_of_more, sum_of-joined}
-use Rattle.tree.specs.Limited.{without_legacy, limited, after_of, sum_of, combined_of}
+use Rattle.tree.specs.Limited.{limited, after_of, sum_of, combined_of}
 use Rattle.tree.specs.First.{walked}
 use Rattle.tree.specs.declared.combine.Combined.TheVariants as combined
 use Rattle.rules.proofs.Laws.{never}

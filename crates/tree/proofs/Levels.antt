@@ -1,16 +1,16 @@
 -- The least level, and the search for it.
-use Prim.Native.Nat.{ℕ, zero, suc, ◌+◌, ◌-◌, ◌*◌, ◌^◌, ◌≤◌, ◌<◌}
-use mathlib.Core.Path.{◌≡◌, refl, sym, ap, ◌∙◌, subst}
+use Prim.Native.Nat.{ℕ, zero, suc, ◌+◌, ◌-◌, ◌^◌, ◌≤◌, ◌<◌}
+use mathlib.Core.Path.{◌≡◌, refl, ◌∙◌, subst}
 use mathlib.Core.Bool.{Bool, true, false, cond}
 use native.Mathlib.Omega.{arith}
 use native.Mathlib.Decide.{dec_le}
-use native.Mathlib.Nat.{add-zero, lt_of_not-le, le_trans, not-le_of_lt, lt_of_lt_of_le}
+use native.Mathlib.Nat.{add-zero, lt_of_not-le, not-le_of_lt}
 use native.Mathlib.Numerals.{add-one}
 use lib.Dec.{leb}
 use lib.Pow.{pow_mono}
 use borrow.Author.Tests.{le-leb, lt-leb}
 use Rattle.rules.specs.Limits.{max_levels, max_objects}
-use Rattle.tree.specs.Size.{levels_of, levels_from, cap_of}
+use Rattle.tree.specs.Size.{levels_of, levels_from}
 
 pub below_13 : (l : ℕ) → 2 ^ l < max_objects → l < max_levels
 below_13 l h = lt_of_not-le (λ g. not-le_of_lt h (pow_mono {i = max_levels} g))

@@ -1,5 +1,5 @@
 -- Document 01, "The board": the board of a map, each entry from the objects that it covers, and its start table.
-use Rattle.std.specs.Prelude.{ℕ, zero, suc, ◌+◌, ◌-◌, ◌*◌, ◌^◌, ◌≤◌, ◌<◌, ◌≡◌, Bool, cond, List, [], ◌∷◌, ◌++◌, map, leb, Float, length, take, drop}
+use Rattle.std.specs.Prelude.{ℕ, zero, suc, ◌+◌, ◌-◌, ◌*◌, ◌^◌, ◌≤◌, ◌<◌, ◌≡◌, cond, List, [], ◌++◌, map, leb, Float, length, take, drop}
 use Rattle.records.specs.Objects.{Object}
 use Rattle.entries.specs.Entry.{none, entry_of}
 use Rattle.entries.specs.Words.{words_from}

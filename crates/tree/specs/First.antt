@@ -1,5 +1,5 @@
 -- Document 01, "The board": "A read of p passed objects reads the largest entries that together cover just the first p places, from the left".
-use Rattle.std.specs.Prelude.{ℕ, zero, suc, ◌+◌, ◌-◌, ◌*◌, ◌/◌, ◌^◌, Bool, cond, List, leb, ltb}
+use Rattle.std.specs.Prelude.{ℕ, zero, suc, ◌+◌, ◌-◌, ◌*◌, ◌/◌, ◌^◌, cond, List, leb, ltb}
 use Rattle.rules.specs.Refusals.{Checked, good, refused, ◌>>=◌}
 use Rattle.entries.specs.Words.{entry_at}
 use Rattle.entries.specs.declared.entry.Entry.{Entry}

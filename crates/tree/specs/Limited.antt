@@ -1,6 +1,6 @@
 -- Document 01, "What a caller gets": "then 13 and 7 entry by entry as read": an entry's own words, then the combined words but the legacy bonus
 -- (13), then the combined legacy bonus ("a legacy sum above it is 7").
-use Rattle.std.specs.Prelude.{ℕ, Bool, not, ltb}
+use Rattle.std.specs.Prelude.{not, ltb}
 use Rattle.rules.specs.Limits.{max_bonus}
 use Rattle.rules.specs.Refusals.{Checked, good, refused, ◌>>◌, refuse◌when◌, BONUS, BOARD}
 use Rattle.entries.specs.Entry.{joined, in_limits}

@@ -1,5 +1,5 @@
 -- Document 01, "The board": "An edit reads the other half of each covering entry, from the bottom up".
-use Rattle.std.specs.Prelude.{ℕ, zero, suc, ◌+◌, ◌-◌, ◌/◌, ◌%◌, ◌^◌, ◌≤◌, ◌≡◌, Bool, true, cond, not, List, eqb}
+use Rattle.std.specs.Prelude.{ℕ, zero, suc, ◌+◌, ◌-◌, ◌/◌, ◌%◌, ◌^◌, ◌≤◌, ◌≡◌, true, cond, not, List, eqb}
 use Rattle.rules.specs.Limits.{max_levels}
 use Rattle.rules.specs.Refusals.{Checked, good, refused, ◌>>=◌, ◌>>◌, refuse◌when◌, BOARD}
 use Rattle.entries.specs.Entry.{joined, in_limits}

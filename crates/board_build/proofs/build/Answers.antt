@@ -1,7 +1,6 @@
 -- `build` is right since nothing is written before the last check, and then the objects' own entries, their starts and what lies above.
 use mathlib.Core.Path.{subst}
 use Rattle.scoring.specs.View.{PlaysOf}
-use borrow.Author.Rules.{rules}
 use Rattle.rules.proofs.Laws.{so}
 use Rattle.board_build.proofs.BuiltRight.{file_refused, no_room, build_lays, build_fills, build_done}
 use Rattle.board_build.proofs.build.Goals as goal

@@ -1,9 +1,8 @@
-use Prim.Native.Nat.{◌-◌}
 use native.Mathlib.Omega.{arith}
 use borrow.Author.Rules.{rules}
 use Rattle.map_file.proofs.Steps.{rest_is}
 use Rattle.map_reader.proofs.Attributed.{complete}
-use Rattle.board_build.proofs.LayingRight.{SoFar, laying_start, same_words, same_numbers, laying_inside, laying_room, laying_ahead, laying_object, laying_end}
+use Rattle.board_build.proofs.LayingRight.{laying_start, same_words, same_numbers, laying_inside, laying_room, laying_ahead, laying_object, laying_end}
 use Rattle.board_build.proofs.lay.Goals as goal
 
 pub objects_from-at-requires : goal.objects_from-at-requires

@@ -1,10 +1,6 @@
 -- `lay` is right since the objects of the map stand one after the other, and each is laid where the definition lays it.
 use Prim.Native.Nat.{◌-◌}
-use native.Mathlib.Omega.{arith}
-use borrow.Author.Rules.{rules}
-use Rattle.map_file.proofs.Steps.{rest_is}
-use Rattle.map_reader.proofs.Attributed.{complete}
-use Rattle.board_build.proofs.LayingRight.{SoFar, laying_start, same_words, same_numbers, laying_inside, laying_room, laying_ahead, laying_object, laying_end}
+use Rattle.board_build.proofs.LayingRight.{SoFar}
 use Rattle.board_build.proofs.lay.Given as goal
 
 abbrev pub invariant-loop-place : goal.invariant-loop-place

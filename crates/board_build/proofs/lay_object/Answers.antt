@@ -1,6 +1,5 @@
 -- `lay_object` is right since each kind is read by its mark as the definition reads it.
 use mathlib.Core.Path.{◌≡◌, sym, ap, ◌∙◌, subst}
-use borrow.Author.Rules.{rules}
 use borrow.Author.Tests.{eq-eqb, ne_eqb}
 use Rattle.records.specs.Records.{record_read, object_of}
 use Rattle.records.specs.declared.record.Read.{Read}

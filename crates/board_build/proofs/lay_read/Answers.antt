@@ -1,6 +1,5 @@
 -- `lay_read` is right since an object that was read is laid by `lay_record`.
 use mathlib.Core.Path.{subst}
-use borrow.Author.Rules.{rules}
 use Rattle.records.specs.declared.record.Read.{Read}
 use Rattle.board_build.specs.Laying.{LaysRead}
 use Rattle.board_build.proofs.LayingRight.{item_laid}

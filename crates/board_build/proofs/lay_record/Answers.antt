@@ -1,7 +1,6 @@
 -- `lay_record` is right since an object has room at its place in both slices, and no other record writes.
 use mathlib.Core.Path.{subst}
 use native.Mathlib.Omega.{arith}
-use borrow.Author.Rules.{rules}
 use Rattle.records.specs.declared.record.Record.{Record}
 use Rattle.records.specs.declared.record.Record.TheVariants as record_case
 use Rattle.board_build.specs.Laying.{LaysRecord}

@@ -1,7 +1,6 @@
 -- The branches are those of the definition, operation by operation.
 use lib.Ieee.{of_bits, of_int, neg}
 use Rattle.exponential.specs.Exp.{exp_of}
-use borrow.Author.Rules.{rules}
 use Rattle.exponential.proofs.exp.Goals as goal
 
 pub returns-then-v : goal.returns-then-v

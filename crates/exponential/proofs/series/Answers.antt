@@ -5,7 +5,6 @@ use native.Mathlib.Numerals.{unary_clauses}
 use native.Mathlib.Omega.{arith}
 use lib.Ieee.{Float, of_bits, of_int}
 use Rattle.numbers.specs.Floats.{whole, ◌⊕◌, ◌⊗◌, ◌⊘◌}
-use borrow.Author.Rules.{rules}
 use Rattle.exponential.specs.Exp.{series_of}
 use Rattle.exponential.proofs.series.Goals as goal
 

@@ -1,12 +1,6 @@
 -- The rest of the series from the h so far is the whole series from 1, in each turn.
-use mathlib.Core.Path.{◌≡◌, refl, sym, ◌∙◌}
-use Prim.Native.Nat.{ℕ, zero, suc, ◌-◌, ◌≤◌, ◌<◌}
-use native.Mathlib.Nat.{not-suc-le-zero}
-use native.Mathlib.Numerals.{unary_clauses}
-use native.Mathlib.Omega.{arith}
-use lib.Ieee.{Float, of_bits, of_int}
-use Rattle.numbers.specs.Floats.{whole, ◌⊕◌, ◌⊗◌, ◌⊘◌}
-use borrow.Author.Rules.{rules}
+use mathlib.Core.Path.{◌≡◌}
+use Rattle.numbers.specs.Floats.{whole}
 use Rattle.exponential.specs.Exp.{series_of}
 use Rattle.exponential.proofs.series.Given as goal
 

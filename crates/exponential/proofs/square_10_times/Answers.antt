@@ -6,7 +6,6 @@ use native.Mathlib.Omega.{arith}
 use lib.Ieee.{Float}
 use Rattle.numbers.specs.Floats.{◌⊗◌}
 use Rattle.exponential.specs.Exp.{squared}
-use borrow.Author.Rules.{rules}
 use Rattle.exponential.proofs.square_10_times.Goals as goal
 
 turn : (n : ℕ) (x : Float) → 0 < n → squared (n - 1) (x ⊗ x) ≡ squared n x

@@ -1,13 +1,6 @@
 -- The squarings that are left, of the power so far, are all of x.
-use mathlib.Core.Path.{◌≡◌, refl, sym, ◌∙◌}
-use Prim.Native.Nat.{ℕ, zero, suc, ◌-◌, ◌≤◌, ◌<◌}
-use native.Mathlib.Nat.{not-suc-le-zero}
-use native.Mathlib.Numerals.{unary_clauses}
-use native.Mathlib.Omega.{arith}
-use lib.Ieee.{Float}
-use Rattle.numbers.specs.Floats.{◌⊗◌}
+use mathlib.Core.Path.{◌≡◌}
 use Rattle.exponential.specs.Exp.{squared}
-use borrow.Author.Rules.{rules}
 use Rattle.exponential.proofs.square_10_times.Given as goal
 
 abbrev pub invariant-loop-left : goal.invariant-loop-left

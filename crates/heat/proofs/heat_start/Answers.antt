@@ -9,7 +9,6 @@ use Rattle.scoring.specs.declared.score.MapScore.{MapScore}
 use Rattle.scoring.specs.declared.score.MapScore.TheVariants as map_score
 use Rattle.heat.specs.Heat.{counts_bad, start_by}
 use Rattle.heat.specs.declared.HeatStart.TheVariants as start
-use borrow.Author.Rules.{rules}
 use Rattle.heat.proofs.heat_start.Goals as goal
 
 -- where the map is scored the start goes by the test of the counts

@@ -1,5 +1,4 @@
 -- The two arms are those of the definition.
-use borrow.Author.Rules.{rules}
 use Rattle.heat.proofs.heat_status.Goals as goal
 
 pub returns-in-Ready : goal.returns-in-Ready

@@ -1,6 +1,5 @@
 -- Both sides test whether all objects were passed.
 use borrow.Author.Tests.{lt-ltb, le-ltb}
-use borrow.Author.Rules.{rules}
 use Rattle.heat.proofs.passed_of.Goals as goal
 
 pub returns-then-all-passed : goal.returns-then-all-passed

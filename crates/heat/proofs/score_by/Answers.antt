@@ -1,5 +1,4 @@
 -- The two arms are those of the definition.
-use borrow.Author.Rules.{rules}
 use Rattle.heat.proofs.score_by.Goals as goal
 
 pub returns-in-Refused : goal.returns-in-Refused

@@ -1,5 +1,4 @@
 -- `lines::put_bits` is right since the float stands behind the space. Assumes nothing.
-use borrow.Author.Rules.{rules}
 use Rattle.text.proofs.Space.{first, next}
 use Rattle.lines.specs.Lines.{float_field}
 use Rattle.lines.proofs.put_bits.Goals as goal

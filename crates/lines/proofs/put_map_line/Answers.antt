@@ -1,6 +1,5 @@
 -- `lines::put_map_line` is right since it writes the pieces of the line one behind the other. Assumes nothing.
 use mathlib.Core.Path.{ap, ◌∙◌}
-use borrow.Author.Rules.{rules}
 use lib.ListN.{length}
 use Rattle.text.proofs.Space.{length_put, first, next}
 use Rattle.lines.specs.Lines.{map_line}

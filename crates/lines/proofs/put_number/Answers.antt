@@ -1,5 +1,4 @@
 -- `lines::put_number` is right since the digits stand behind the space. Assumes nothing.
-use borrow.Author.Rules.{rules}
 use Rattle.text.proofs.Space.{first, next}
 use Rattle.lines.specs.Lines.{number_field}
 use Rattle.lines.proofs.put_number.Goals as goal

@@ -1,5 +1,4 @@
 -- `lines::put_refused_line` is right since it writes the pieces of the line one behind the other. Assumes nothing.
-use borrow.Author.Rules.{rules}
 use Rattle.text.proofs.Space.{first, next}
 use Rattle.lines.specs.Lines.{refused_line}
 use Rattle.lines.proofs.put_refused_line.Goals as goal

@@ -1,5 +1,4 @@
 -- `lines::put_score_based` is right since each case writes its own field. Assumes nothing.
-use borrow.Author.Rules.{rules}
 use Rattle.lines.specs.Lines.{score_based_field}
 use Rattle.lines.proofs.put_score_based.Goals as goal
 

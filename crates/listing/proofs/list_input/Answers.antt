@@ -4,7 +4,6 @@ use lib.ListN.{length}
 use Rattle.text.proofs.Space.{length_put}
 use Rattle.listing.specs.Listing.{input_text, listed_at}
 use Rattle.listing.proofs.Texts.{listed_is}
-use borrow.Author.Rules.{rules}
 use Rattle.listing.proofs.list_input.Goals as goal
 
 pub returns : goal.returns

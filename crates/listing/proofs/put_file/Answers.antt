@@ -3,7 +3,6 @@ use mathlib.Core.Path.{ap, ◌∙◌, subst}
 use mathlib.Core.List.{List}
 use Prim.Native.Nat.{ℕ}
 use lib.ListN.{length}
-use borrow.Author.Rules.{rules}
 use Rattle.text.proofs.Space.{Written, Puts, first, next, length_put}
 use Rattle.map_file.specs.File.{file_of}
 use Rattle.scoring.specs.Scores.{scores_of}

@@ -1,6 +1,5 @@
 -- Rule 1 is tested first; then the file's text is put.
 use mathlib.Core.Path.{ap, ◌∙◌}
-use borrow.Author.Rules.{rules}
 use borrow.Author.Tests.{lt-ltb, le-ltb}
 use lib.ListN.{length}
 use Rattle.text.proofs.Space.{length_put}

@@ -1,11 +1,10 @@
-use Prim.Native.Nat.{◌-◌, ◌<◌}
+use Prim.Native.Nat.{◌<◌}
 use native.Mathlib.Omega.{arith}
-use borrow.Author.Rules.{rules}
 use lib.ListN.{length}
 use Rattle.rules.proofs.Laws.{so}
 use Rattle.play_reader.proofs.Playing.{read_inside}
 use Rattle.marks.proofs.Marked.{mark_there}
-use Rattle.listing.proofs.Writing.{Writing, writing_start, from_mark, writing_cut, writing_line, writing_done, writing_length}
+use Rattle.listing.proofs.Writing.{writing_start, from_mark, writing_cut, writing_line, writing_done, writing_length}
 use Rattle.listing.proofs.put_plays.Goals as goal
 
 pub returns-then-map-s : goal.returns-then-map-s

@@ -7,7 +7,6 @@ use Rattle.map_reader.specs.Attributes.{Complete, attributes_in}
 use Rattle.map_reader.specs.declared.objects.Objects.{Objects}
 use Rattle.marks.specs.Marks.{state_or, with_passed}
 use Rattle.marks.proofs.Marked.{few_objects, behind_small, complete_there}
-use borrow.Author.Rules.{rules}
 use Rattle.marks.proofs.attributes_from.Goals as goal
 
 pub state_at-passed-requires : goal.state_at-passed-requires

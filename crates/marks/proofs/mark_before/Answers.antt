@@ -1,7 +1,6 @@
 -- The mark is the count of whole strides, and 128 strides are more than all objects.
 use mathlib.Core.Path.{sym, ap, ◌∙◌, subst}
 use Prim.Native.Nat.{ℕ, ◌/◌, ◌<◌}
-use borrow.Author.Rules.{rules}
 use Rattle.marks.specs.Marks.{passed_of}
 use Rattle.marks.proofs.Marked.{mark_few}
 use Rattle.marks.proofs.mark_before.Goals as goal

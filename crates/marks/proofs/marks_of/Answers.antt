@@ -1,9 +1,7 @@
 use mathlib.Core.Path.{ap, ◌∙◌}
-use Prim.Native.Nat.{◌+◌, ◌-◌}
 use native.Mathlib.Omega.{arith}
 use Rattle.map_reader.specs.Objects.{objects_at}
-use Rattle.marks.proofs.Marked.{few_objects, few_breaks, Marking, marking_start, marking_end, marking_place, marking_small, marking_next}
-use borrow.Author.Rules.{rules}
+use Rattle.marks.proofs.Marked.{few_objects, few_breaks, marking_start, marking_end, marking_place, marking_small, marking_next}
 use Rattle.marks.proofs.marks_of.Goals as goal
 
 pub objects_from-requires : goal.objects_from-requires

@@ -10,7 +10,6 @@ use Rattle.simulator.specs.declared.attributes.ScoreAttributes.{ScoreAttributes}
 use Rattle.play_score.specs.PlayRules.{play_score, scored_of}
 use Rattle.marks.specs.Marks.{state_or, first_of, with_passed}
 use Rattle.marks.proofs.Marked.{few_objects, few_breaks, small_first, first_before, complete_there}
-use borrow.Author.Rules.{rules}
 use Rattle.marks.proofs.score_anew.Goals as goal
 
 pub objects_from-requires : goal.objects_from-requires

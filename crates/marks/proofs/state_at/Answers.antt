@@ -2,7 +2,6 @@
 use mathlib.Core.Path.{ap}
 use Rattle.rules.proofs.Laws.{so}
 use Rattle.marks.specs.Marks.{state_in}
-use borrow.Author.Rules.{rules}
 use Rattle.marks.proofs.state_at.Goals as goal
 
 pub returns-in-To : goal.returns-in-To

@@ -1,6 +1,5 @@
 -- Behind a map that ends before the file stand plays.
 use borrow.Author.Tests.{lt-ltb, le-ltb}
-use borrow.Author.Rules.{rules}
 use Rattle.play_reader.proofs.last_rank.Goals as goal
 
 pub returns-then-map-s : goal.returns-then-map-s

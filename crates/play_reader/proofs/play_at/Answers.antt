@@ -6,7 +6,6 @@ use Rattle.rules.proofs.Laws.{so}
 use Rattle.map_file.proofs.Steps.{rest_is}
 use Rattle.play_reader.specs.Plays.{play_in}
 use Rattle.play_reader.proofs.Playing.{in_none, in_cut, in_other, in_refused, in_play, in_header, in_break, in_object}
-use borrow.Author.Rules.{rules}
 use Rattle.play_reader.proofs.play_at.Goals as goal
 
 pub returns-then-s-at : goal.returns-then-s-at

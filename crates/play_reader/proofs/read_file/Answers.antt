@@ -1,14 +1,13 @@
 use mathlib.Core.Path.{subst}
 use mathlib.Core.List.{List}
-use Prim.Native.Nat.{ℕ, ◌-◌}
+use Prim.Native.Nat.{ℕ}
 use native.Mathlib.Omega.{arith}
-use lib.ListN.{length}
 use Rattle.rules.proofs.Laws.{so}
 use Rattle.map_reader.specs.Map.{MapReadOf, refuses as map-refuses}
 use Rattle.map_reader.specs.declared.map.MapRead.TheVariants as map-read
 use Rattle.play_reader.specs.Plays.{MapFileOf, all, refuses}
 use Rattle.play_reader.specs.declared.MapFile.TheVariants as map_file
-use Rattle.play_reader.proofs.Playing.{ReadTo, map_out, read_start, read_more, read_inside, read_stop, read_end}
+use Rattle.play_reader.proofs.Playing.{map_out, read_start, read_more, read_inside, read_stop, read_end}
 use borrow.Author.Rules.{rules}
 use Rattle.play_reader.proofs.read_file.Goals as goal
 

@@ -1,16 +1,7 @@
 -- The map, then one record of a play after another, each of which the definition finds there.
-use mathlib.Core.Path.{subst}
-use mathlib.Core.List.{List}
-use Prim.Native.Nat.{ℕ, ◌-◌}
-use native.Mathlib.Omega.{arith}
+use Prim.Native.Nat.{◌-◌}
 use lib.ListN.{length}
-use Rattle.rules.proofs.Laws.{so}
-use Rattle.map_reader.specs.Map.{MapReadOf, refuses as map-refuses}
-use Rattle.map_reader.specs.declared.map.MapRead.TheVariants as map-read
-use Rattle.play_reader.specs.Plays.{MapFileOf, all, refuses}
-use Rattle.play_reader.specs.declared.MapFile.TheVariants as map_file
-use Rattle.play_reader.proofs.Playing.{ReadTo, map_out, read_start, read_more, read_inside, read_stop, read_end}
-use borrow.Author.Rules.{rules}
+use Rattle.play_reader.proofs.Playing.{ReadTo}
 use Rattle.play_reader.proofs.read_file.Given as goal
 
 abbrev pub invariant-loop-at : goal.invariant-loop-at

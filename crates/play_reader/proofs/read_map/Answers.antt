@@ -3,7 +3,6 @@ use mathlib.Core.Path.{ap, ◌∙◌, subst}
 use Rattle.play_reader.specs.Plays.{MapFileOf}
 use Rattle.play_reader.specs.declared.Answer.TheVariants as answer
 use Rattle.play_reader.proofs.Answers.{answers, answers_refused}
-use borrow.Author.Rules.{rules}
 use Rattle.play_reader.proofs.read_map.Goals as goal
 
 pub returns-in-Refused : goal.returns-in-Refused

@@ -1,5 +1,4 @@
 -- Each part is the map's own.
-use borrow.Author.Rules.{rules}
 use Rattle.play_reader.proofs.reader_in.Goals as goal
 
 pub returns : goal.returns

@@ -3,7 +3,6 @@ use mathlib.Core.Path.{subst}
 use Rattle.map_reader.proofs.Attributed.{complete}
 use Rattle.play_reader.specs.Plays.{MapFileOf}
 use Rattle.play_reader.proofs.Answers.{simulates, simulates_refused, file-map}
-use borrow.Author.Rules.{rules}
 use Rattle.play_reader.proofs.simulate.Goals as goal
 
 pub attributes_of-requires : goal.attributes_of-requires

@@ -1,7 +1,6 @@
 -- The three tests of the definition, in its order.
 use Rattle.play_score.specs.PlayRules.{exceeds}
 use borrow.Author.Tests.{lt-ltb, le-ltb}
-use borrow.Author.Rules.{rules}
 use Rattle.play_score.proofs.exceeds_map.Goals as goal
 
 pub returns-then-a-total_hits : goal.returns-then-a-total_hits

@@ -1,7 +1,6 @@
 -- Case by case.
-use mathlib.Core.Path.{sym, ap, ◌∙◌}
+use mathlib.Core.Path.{sym, ap}
 use Rattle.play_score.specs.PlayRules.{given_of}
-use borrow.Author.Rules.{rules}
 use Rattle.play_score.proofs.given.Goals as goal
 
 pub returns-in-Refused : goal.returns-in-Refused

@@ -2,7 +2,6 @@
 use mathlib.Core.Path.{sym}
 use Rattle.play_score.specs.PlayRules.{mods_bad}
 use Rattle.rules.proofs.Laws.{so}
-use borrow.Author.Rules.{rules}
 use Rattle.play_score.proofs.has_bad_mods.Goals as goal
 
 pub returns-then-has_unknown_flags : goal.returns-then-has_unknown_flags

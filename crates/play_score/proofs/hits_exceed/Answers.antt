@@ -2,7 +2,6 @@
 use Rattle.play_score.specs.PlayRules.{hits_exceed}
 use borrow.Author.Tests.{lt-ltb, le-ltb}
 use Rattle.rules.proofs.Laws.{so}
-use borrow.Author.Rules.{rules}
 use Rattle.play_score.proofs.hits_exceed.Goals as goal
 
 pub returns-then-is_classic : goal.returns-then-is_classic

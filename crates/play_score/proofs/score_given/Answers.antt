@@ -3,7 +3,6 @@ use mathlib.Core.Path.{ap, ◌∙◌}
 use Rattle.play_score.specs.PlayRules.{given_score, given_of}
 use Rattle.rules.specs.Refusals.{◌>>◌, refuse◌when◌}
 use Rattle.rules.proofs.Laws.{so}
-use borrow.Author.Rules.{rules}
 use Rattle.play_score.proofs.score_given.Goals as goal
 
 pub returns-then-has_bad_mods : goal.returns-then-has_bad_mods

@@ -2,7 +2,6 @@
 use Rattle.play_score.specs.PlayRules.{play_score}
 use Rattle.rules.specs.Refusals.{◌>>=◌, ◌>>◌, refuse◌when◌}
 use Rattle.rules.proofs.Laws.{so}
-use borrow.Author.Rules.{rules}
 use Rattle.play_score.proofs.score_on.Goals as goal
 
 pub returns-then-exceeds_map : goal.returns-then-exceeds_map

@@ -4,7 +4,6 @@ use Prim.Native.Nat.{ℕ, ◌/◌, ◌^◌}
 use lib.Dec.{eqb}
 use lib.Bits.{and_mask}
 use Rattle.play_state.specs.Play.{flag_at}
-use borrow.Author.Rules.{rules}
 use Rattle.play_state.proofs.flag.Goals as goal
 
 pub returns : goal.returns

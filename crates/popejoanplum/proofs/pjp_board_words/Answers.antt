@@ -1,6 +1,5 @@
 -- The count is tested as in the definition, and the size has the places of the definition.
 use borrow.Author.Tests.{lt-ltb, le-ltb}
-use borrow.Author.Rules.{rules}
 use Rattle.popejoanplum.proofs.pjp_board_words.Goals as goal
 
 pub returns-then-count : goal.returns-then-count

@@ -2,7 +2,6 @@
 use mathlib.Core.Path.{ap, ◌∙◌}
 use Rattle.host.specs.Status.{status_left}
 use Rattle.host.specs.declared.status.Status.{Status}
-use borrow.Author.Rules.{rules}
 use Rattle.popejoanplum.proofs.pjp_edit.Goals as goal
 
 pub returns : goal.returns

@@ -1,4 +1,4 @@
-use Rattle.std.proofs.Common.{◌<◌, ◌≤◌, ◌≡◌, length, arith}
+use Rattle.std.proofs.Common.{◌<◌, ◌≤◌, length, arith}
 use Rattle.rules.specs.Limits.{max_plays}
 use Rattle.map_file.specs.File.{file_of}
 use Rattle.scoring.specs.Scores.{scores_of}

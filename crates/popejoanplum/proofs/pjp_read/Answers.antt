@@ -1,6 +1,5 @@
 -- What the call answers for the settings and the play that crossed.
 use mathlib.Core.Path.{refl}
-use borrow.Author.Rules.{rules}
 use Rattle.popejoanplum.proofs.pjp_read.Goals as goal
 
 pub returns : goal.returns

@@ -1,6 +1,5 @@
 -- What the read without factors answers, and what the factors that crossed make of it; nothing is written.
 use mathlib.Core.Path.{refl}
-use borrow.Author.Rules.{rules}
 use Rattle.host.specs.Breaks.{factors_in}
 use Rattle.host.specs.Map.{settings_in}
 use Rattle.host.specs.Play.{play_in}

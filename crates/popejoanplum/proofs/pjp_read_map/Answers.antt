@@ -1,7 +1,6 @@
 -- What the call answers crosses as the definition says.
 use mathlib.Core.Path.{ap, ◌∙◌}
 use Rattle.host.specs.Map.{map_info_of}
-use borrow.Author.Rules.{rules}
 use Rattle.popejoanplum.proofs.pjp_read_map.Goals as goal
 
 pub returns : goal.returns

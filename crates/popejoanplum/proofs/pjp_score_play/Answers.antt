@@ -1,5 +1,4 @@
 -- What the call answers for the play that crossed.
-use borrow.Author.Rules.{rules}
 use Rattle.host.specs.Answer.{single_of}
 use Rattle.popejoanplum.proofs.pjp_score_play.Goals as goal
 

@@ -1,5 +1,4 @@
 -- What the call without factors answers, and what the factors that crossed make of it.
-use borrow.Author.Rules.{rules}
 use Rattle.host.specs.Answer.{single_of}
 use Rattle.host.specs.Breaks.{factors_in}
 use Rattle.host.specs.Play.{play_in}

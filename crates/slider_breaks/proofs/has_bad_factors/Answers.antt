@@ -1,6 +1,5 @@
 -- The tests come in the definition's order.
 use Rattle.slider_breaks.specs.Given.{factors_bad}
-use borrow.Author.Rules.{rules}
 use Rattle.slider_breaks.proofs.has_bad_factors.Goals as goal
 
 pub returns-then-not-is_factor : goal.returns-then-not-is_factor

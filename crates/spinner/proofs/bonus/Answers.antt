@@ -1,7 +1,6 @@
 -- The walk is over the half spins of the duration.
 use mathlib.Core.Path.{◌≡◌, ap, ◌∙◌}
 use Prim.Native.Nat.{ℕ, suc, ◌+◌}
-use borrow.Author.Rules.{rules}
 use Rattle.spinner.specs.HalfSpins.{total_half_spins, required_half_spins}
 use Rattle.spinner.specs.Bonus.{sums_before, legacy_of, standardised_of}
 use Rattle.spinner.specs.declared.BonusScores.{BonusScores}

@@ -1,5 +1,4 @@
 -- The two formulas are the definitions, and `cut` bounds what it gives.
-use borrow.Author.Rules.{rules}
 use lib.Ieee.{of_bits, of_int}
 use Rattle.spinner.specs.HalfSpins.{total_half_spins, required_half_spins}
 use Rattle.spinner.proofs.half_spins.Goals as goal

@@ -1,9 +1,7 @@
 -- Before each turn the sums are those of the half spins so far.
-use mathlib.Core.Path.{◌≡◌, ap, ◌∙◌}
-use Prim.Native.Nat.{ℕ, suc, ◌-◌, ◌+◌, ◌≤◌}
-use native.Mathlib.Omega.{arith}
-use borrow.Author.Rules.{rules}
-use Rattle.spinner.specs.Bonus.{half_spin_points, sums_before}
+use mathlib.Core.Path.{◌≡◌}
+use Prim.Native.Nat.{suc, ◌-◌, ◌≤◌}
+use Rattle.spinner.specs.Bonus.{sums_before}
 use Rattle.spinner.proofs.walk_half_spins.Given as goal
 
 abbrev pub invariant-loop-i : goal.invariant-loop-i

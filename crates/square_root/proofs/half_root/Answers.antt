@@ -1,5 +1,5 @@
 -- `square_root::half_root` is right since a guess is taken only where it is the whole root: its square is not above m, and leaves at most twice the root.
-use Rattle.std.proofs.Common.{ℕ, ◌*◌, ◌^◌, ◌<◌, ◌≤◌, mul-le-mul, arith, rules}
+use Rattle.std.proofs.Common.{◌^◌, ◌≤◌, mul-le-mul, arith}
 use Rattle.square_root.proofs.Isqrt.{sq_lt}
 use Rattle.square_root.proofs.half_root.Goals as goal
 

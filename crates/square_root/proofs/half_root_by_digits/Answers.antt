@@ -1,5 +1,5 @@
 -- `square_root::half_root_by_digits` is right since the upper 28 digits of a number of 53 or 54 have a root of 14, which is what `more_digits` goes on from.
-use Rattle.std.proofs.Common.{◌≡◌, ◌+◌, ◌*◌, ◌^◌, ◌<◌, arith, rules}
+use Rattle.std.proofs.Common.{◌≡◌, ◌+◌, ◌*◌, ◌^◌, ◌<◌, arith}
 use Rattle.square_root.proofs.Isqrt.{sq_lt}
 use Rattle.square_root.proofs.half_root_by_digits.Goals as goal
 

@@ -1,6 +1,6 @@
 -- `square_root::more_digits` is right since the square of the longer root and what the division left make the number and the square of the quotient:
 -- where that square is above what was left, the root is one less, and no less, as the quotient is at most p.
-use Rattle.std.proofs.Common.{◌+◌, ◌*◌, ◌/◌, ◌%◌, div-add-mod', arith, rules}
+use Rattle.std.proofs.Common.{◌+◌, ◌*◌, ◌/◌, ◌%◌, div-add-mod', arith}
 use Rattle.square_root.proofs.DivisionStep.{Small, small, kept, lowered}
 use Rattle.square_root.proofs.more_digits.Goals as goal
 use Rattle.square_root.proofs.more_digits.Goals.{Start}

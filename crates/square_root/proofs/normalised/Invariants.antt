@@ -1,6 +1,5 @@
 -- `square_root::normalised` is right since doubling s and lowering e by one keeps s * 2 ^ e, and e stays above 0: the number is at least 2 ^ 64, and s below 2 ^ 53.
-use Rattle.std.proofs.Common.{◌≡◌, ℕ, zero, suc, ◌+◌, ◌-◌, ◌*◌, ◌^◌, ◌<◌, ◌≤◌, sym, refl, ap, ◌∙◌, zero-lt-suc, mul_assoc, mul-le-mul, mul-one, sub-one, arith, pow_mono}
-use native.Mathlib.Nat.{pow-succ'}
+use Rattle.std.proofs.Common.{◌≡◌, ◌+◌, ◌-◌, ◌*◌, ◌^◌, ◌<◌, ◌≤◌}
 use Rattle.square_root.proofs.normalised.Given as goal
 
 abbrev pub invariant-loop-s : goal.invariant-loop-s

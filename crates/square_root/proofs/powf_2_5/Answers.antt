@@ -1,5 +1,4 @@
 -- `square_root::powf_2_5` is right since it is the definition's product with what `root` ensures.
-use Rattle.std.proofs.Common.{rules}
 use Rattle.square_root.specs.Roots.{power_of}
 use Rattle.square_root.proofs.powf_2_5.Goals as goal
 

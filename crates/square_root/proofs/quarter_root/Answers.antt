@@ -1,5 +1,5 @@
-use Rattle.std.proofs.Common.{◌-◌, ◌*◌, ◌%◌, ◌^◌, lt_of_lt_of_le, arith, pow_mono}
-use Rattle.square_root.proofs.DigitLoop.{Inv, start, again, done}
+use Rattle.std.proofs.Common.{◌*◌, ◌%◌, ◌^◌, lt_of_lt_of_le, arith, pow_mono}
+use Rattle.square_root.proofs.DigitLoop.{start, again, done}
 use Rattle.square_root.proofs.quarter_root.Goals as goal
 
 pub loop-i-init : goal.loop-i-init

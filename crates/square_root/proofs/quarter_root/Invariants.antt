@@ -1,6 +1,6 @@
 -- `square_root::quarter_root` is right since each turn takes two more digits of the number from `rest`, and `next_digit` makes the root of what was taken so far.
-use Rattle.std.proofs.Common.{◌-◌, ◌*◌, ◌%◌, ◌^◌, lt_of_lt_of_le, arith, pow_mono}
-use Rattle.square_root.proofs.DigitLoop.{Inv, start, again, done}
+use Rattle.std.proofs.Common.{◌-◌}
+use Rattle.square_root.proofs.DigitLoop.{Inv}
 use Rattle.square_root.proofs.quarter_root.Given as goal
 
 abbrev pub invariant-loop-i : goal.invariant-loop-i

@@ -1,6 +1,6 @@
 -- `square_root::root` is right since its arms are the cases of the definition: a NaN, the infinities, the zeros, the numbers below zero, and the others, whose root
 -- does not change when the significand is brought to 53 digits. Assumes nothing.
-use Rattle.std.proofs.Common.{◌*◌, ◌^◌, ◌<◌, Bool, T, sym, ap, ◌∙◌, subst, mul-pos, arith, pow_pos, rules}
+use Rattle.std.proofs.Common.{◌*◌, ◌^◌, ◌<◌, Bool, T, sym, ap, ◌∙◌, subst, mul-pos, arith, pow_pos}
 use lib.Ieee.{of_bits, div}
 use lib.Ieee.Exact.{HasValue}
 use Rattle.numbers.proofs.bits.Fields.{IsFinite, parts_value}

@@ -1,7 +1,7 @@
 -- `square_root::root_of_normal` is right since the whole root of the significand, followed by 54 zeros, is the exact root cut after 54 digits: the last of them
 -- says on which side of the middle between two f64 the exact root lies, which is never the middle itself, as an odd number's square is no multiple of four.
 -- Assumes nothing.
-use Rattle.std.proofs.Common.{ℕ, ◌+◌, ◌*◌, ◌/◌, ◌%◌, ◌^◌, ap, ◌∙◌, arith, shl_exact, rules}
+use Rattle.std.proofs.Common.{ℕ, ◌+◌, ◌*◌, ◌/◌, ◌%◌, ◌^◌, ap, ◌∙◌, arith, shl_exact}
 use lib.Ieee.{binary64, of_bits}
 use Rattle.square_root.specs.Roots.{rooted}
 use Rattle.square_root.proofs.Assembly.{bits_right, parted, doubled_lt, doubled_ge}

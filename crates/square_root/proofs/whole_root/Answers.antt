@@ -1,5 +1,5 @@
 -- `square_root::whole_root` is right since a number of 53 digits or more has a root of 27, which is what `more_digits` goes on from.
-use Rattle.std.proofs.Common.{◌≡◌, ◌+◌, ◌*◌, ◌^◌, ◌<◌, arith, rules}
+use Rattle.std.proofs.Common.{◌≡◌, ◌+◌, ◌*◌, ◌^◌, ◌<◌, arith}
 use Rattle.square_root.proofs.Isqrt.{sq_lt}
 use Rattle.square_root.proofs.Assembly.{is_root, root_lt}
 use Rattle.square_root.proofs.whole_root.Goals as goal

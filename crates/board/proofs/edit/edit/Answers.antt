@@ -1,27 +1,23 @@
 -- Each return is a step of the definition; the object's own entry is within the limits.
-use Prim.Native.Nat.{ℕ, ◌*◌, ◌≤◌, ◌<◌}
-use mathlib.Core.Path.{◌≡◌, refl, sym, ap, ap₂, ◌∙◌, subst}
-use mathlib.Core.Bool.{true}
-use mathlib.Core.List.{List, [], ◌∷◌}
+use Prim.Native.Nat.{ℕ, ◌≤◌}
+use mathlib.Core.Path.{◌≡◌, sym, ap, ◌∙◌, subst}
+use mathlib.Core.List.{List}
 use native.Mathlib.Omega.{arith}
 use lib.Ieee.{Float}
-use lib.ListN.{length}
 use Rattle.rules.specs.Limits.{max_nested}
 use Rattle.rules.specs.Refusals.{Checked}
 use Rattle.records.specs.declared.hit_object.HitObject.{HitObject}
 use Rattle.rules.proofs.Laws.{so}
 use Rattle.simulator.specs.Limits.{nested_count}
 use Rattle.simulator.proofs.Few.{kind_few}
-use Rattle.entries.specs.Entry.{entry_of, in_limits}
-use Rattle.entries.specs.declared.entry.Entry.{Entry}
-use Rattle.tree.specs.Size.{levels_of, cap_of}
+use Rattle.entries.specs.Entry.{in_limits}
+use Rattle.tree.specs.Size.{cap_of}
 use Rattle.tree.specs.declared.put.Put.{Put}
 use Rattle.tree.proofs.Levels.{levels_hold}
 use Rattle.board.specs.Place.{put_place, written_of, written_left}
 use Rattle.board.specs.declared.place.Written.{Written}
 use Rattle.board.proofs.Rooms as rooms
 use Rattle.board.proofs.Edits as edits
-use borrow.Author.Rules.{rules}
 use Rattle.board.proofs.edit.edit.Goals as goal
 
 pub returns-then-count-place : goal.returns-then-count-place

@@ -1,7 +1,6 @@
 -- Case by case.
 use mathlib.Core.Path.{sym, ap}
 use Rattle.board.specs.Edit.{only_of}
-use borrow.Author.Rules.{rules}
 use Rattle.board.proofs.edit.object_only.Goals as goal
 
 pub returns-in-Object : goal.returns-in-Object

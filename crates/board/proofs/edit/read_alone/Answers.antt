@@ -1,14 +1,12 @@
 -- Each return is what the definition computes from the tests on the way.
 use Prim.Native.Nat.{ℕ}
 use mathlib.Core.Path.{◌≡◌, sym, ap, ◌∙◌}
-use native.Mathlib.Omega.{arith}
 use Rattle.numbers.specs.Words.{word_at}
 use Rattle.records.specs.Records.{object_of, record_read}
 use Rattle.rules.proofs.Laws.{so}
 use Rattle.board.specs.Edit.{alone_of}
 use Rattle.board.proofs.Alones as alones
 use mathlib.Core.Path.{sym, ap, ◌∙◌}
-use borrow.Author.Rules.{rules}
 use Rattle.board.proofs.edit.read_alone.Goals as goal
 
 pub returns-then-r-eq0 : goal.returns-then-r-eq0

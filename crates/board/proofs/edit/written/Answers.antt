@@ -1,7 +1,6 @@
 -- Case by case.
-use mathlib.Core.Path.{sym, ap, ◌∙◌}
+use mathlib.Core.Path.{sym, ap}
 use Rattle.board.specs.Place.{written_of}
-use borrow.Author.Rules.{rules}
 use Rattle.board.proofs.edit.written.Goals as goal
 
 pub returns-in-Refused : goal.returns-in-Refused

@@ -1,8 +1,6 @@
 -- The climb's answer stands, and the start is put behind it.
-use native.Mathlib.Omega.{arith}
 use Rattle.rules.proofs.Laws.{so}
 use Rattle.board.proofs.Puts as puts
-use borrow.Author.Rules.{rules}
 use Rattle.board.proofs.place.put_at.Goals as goal
 
 pub returns-in-Refused : goal.returns-in-Refused

@@ -1,16 +1,12 @@
 -- Each test is the definition's.
-use Prim.Native.Nat.{ℕ, ◌*◌}
-use mathlib.Core.Path.{◌≡◌, refl, sym, ap, ap₂, ◌∙◌, subst}
+use Prim.Native.Nat.{ℕ}
+use mathlib.Core.Path.{◌≡◌, sym, ap, ap₂, ◌∙◌}
 use native.Mathlib.Omega.{arith}
-use Rattle.rules.proofs.Laws.{so}
 use Rattle.tree.specs.Size.{levels_of, cap_of}
 use Rattle.board.specs.Place.{room_of}
-use Rattle.board.specs.declared.place.Room.{Room}
 use Rattle.board.specs.declared.place.Room.TheVariants as room
 use Rattle.board.proofs.Rooms as rooms
 use Rattle.tree.specs.Size.{cap_of}
-use Rattle.tree.specs.declared.size.Size.{Size}
-use borrow.Author.Rules.{rules}
 use Rattle.board.proofs.place.room_for.Goals as goal
 
 pub returns-then-count : goal.returns-then-count

@@ -1,5 +1,5 @@
 -- The drain and the multiplier are those of the definition; the words within the limits leave room in the attributes.
-use mathlib.Core.Path.{◌≡◌, refl, sym, ap, ◌∙◌, subst}
+use mathlib.Core.Path.{sym, ap, ◌∙◌, subst}
 use native.Mathlib.Omega.{arith}
 use Rattle.rules.specs.Limits.{max_objects}
 use Rattle.ruleset.specs.Stars.{multiplier_of}

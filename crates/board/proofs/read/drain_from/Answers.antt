@@ -4,7 +4,6 @@ use native.Mathlib.Omega.{arith}
 use borrow.Author.Tests.{eq-eqb, ne_eqb}
 use Rattle.ruleset.proofs.Signs.{kept}
 use Rattle.board.specs.Read.{drain_from}
-use borrow.Author.Rules.{rules}
 use Rattle.board.proofs.read.drain_from.Goals as goal
 
 pub returns-then-count-eq0 : goal.returns-then-count-eq0

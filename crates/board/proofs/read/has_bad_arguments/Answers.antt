@@ -1,7 +1,6 @@
 -- The settings, then the breaks, then their count.
 use Rattle.board.specs.Read.{arguments_bad}
 use Rattle.rules.proofs.Laws.{so}
-use borrow.Author.Rules.{rules}
 use Rattle.board.proofs.read.has_bad_arguments.Goals as goal
 
 pub returns-then-has_bad_settings : goal.returns-then-has_bad_settings

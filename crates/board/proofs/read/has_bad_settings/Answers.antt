@@ -1,9 +1,7 @@
 -- One setting after the other.
 use mathlib.Core.Path.{sym}
-use borrow.Author.Tests.{not-true, not-false}
 use Rattle.board.specs.Read.{settings_bad}
 use Rattle.rules.proofs.Laws.{so}
-use borrow.Author.Rules.{rules}
 use Rattle.board.proofs.read.has_bad_settings.Goals as goal
 
 pub returns-then-not-is_setting : goal.returns-then-not-is_setting

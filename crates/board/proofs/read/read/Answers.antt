@@ -1,11 +1,9 @@
 -- Each return is a step of the definition, and nothing is written.
-use mathlib.Core.Path.{◌≡◌, refl, sym, ap, ◌∙◌, subst}
-use native.Mathlib.Omega.{arith}
+use mathlib.Core.Path.{refl, sym, ap, ◌∙◌}
 use Rattle.rules.proofs.Laws.{so}
 use Rattle.play_score.specs.PlayRules.{given_answer}
 use Rattle.board.proofs.Rooms as rooms
 use Rattle.board.proofs.Readings as readings
-use borrow.Author.Rules.{rules}
 use Rattle.board.proofs.read.read.Goals as goal
 
 pub returns-then-breaks-gt-MAX_BREAK_TIMES : goal.returns-then-breaks-gt-MAX_BREAK_TIMES

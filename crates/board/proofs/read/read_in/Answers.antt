@@ -1,14 +1,12 @@
 -- The search is of the smaller of passed and count; then the play as the scoring call gives it.
-use Prim.Native.Nat.{ℕ, ◌≤◌, min}
-use mathlib.Core.Path.{◌≡◌, refl, sym, ap, ◌∙◌, subst}
-use native.Mathlib.Omega.{arith}
+use Prim.Native.Nat.{ℕ, min}
+use mathlib.Core.Path.{◌≡◌, sym, ap, ◌∙◌}
 use Rattle.rules.proofs.Laws.{so}
 use Rattle.play_score.specs.PlayRules.{play_score, scored_of, given_of, given_answer}
 use Rattle.simulator.specs.declared.attributes.ScoreAttributes.{ScoreAttributes}
 use Rattle.board.specs.Search.{found_of}
 use Rattle.board.proofs.Searches as searches
 use Rattle.board.proofs.Readings as readings
-use borrow.Author.Rules.{rules}
 use Rattle.board.proofs.read.read_in.Goals as goal
 
 pub attributes_from-requires : goal.attributes_from-requires

@@ -1,11 +1,10 @@
 -- Each return is a step of the definition.
-use mathlib.Core.Path.{◌≡◌, refl, sym, ap, ◌∙◌, subst}
+use mathlib.Core.Path.{sym, ap, ◌∙◌}
 use native.Mathlib.Omega.{arith}
-use Prim.Native.Nat.{ℕ, ◌+◌, ◌*◌, ◌≤◌, ◌^◌}
+use Prim.Native.Nat.{ℕ, ◌+◌, ◌≤◌, ◌^◌}
 use lib.Pow.{pow_mono}
 use Rattle.rules.specs.Limits.{max_levels, max_objects}
 use Rattle.rules.proofs.Laws.{so}
-use Rattle.rules.specs.Refusals.{good, refused}
 use Rattle.entries.specs.Entry.{none}
 use Rattle.tree.specs.Size.{levels_of, cap_of}
 use Rattle.tree.specs.First.{walked}
@@ -13,7 +12,6 @@ use Rattle.tree.proofs.Climbs as climbs
 use Rattle.tree.proofs.Levels.{levels_hold, levels_most}
 use Rattle.board.specs.Search.{search_of}
 use Rattle.board.proofs.Searches as searches
-use borrow.Author.Rules.{rules}
 use Rattle.board.proofs.search.find.Goals as goal
 
 pub quick_sum_of_first-requires : goal.quick_sum_of_first-requires

@@ -1,12 +1,10 @@
 -- The tests are the definition's, on the starts at both places.
-use mathlib.Core.Path.{sym, ap, ◌∙◌}
-use native.Mathlib.Omega.{arith}
-use borrow.Author.Tests.{eq-eqb, ne_eqb, not-true, not-false}
+use mathlib.Core.Path.{sym}
+use borrow.Author.Tests.{eq-eqb, ne_eqb}
 use lib.Ieee.{of_bits, of_int, round}
-use Rattle.rules.specs.Refusals.{◌>>=◌, ◌>>◌, refuse◌when◌}
+use Rattle.rules.specs.Refusals.{◌>>◌, refuse◌when◌}
 use Rattle.rules.proofs.Laws.{so}
 use Rattle.board.specs.Search.{starts_in}
-use borrow.Author.Rules.{rules}
 use Rattle.board.proofs.search.find_starts.Goals as goal
 
 pub returns-then-count-eq0 : goal.returns-then-count-eq0

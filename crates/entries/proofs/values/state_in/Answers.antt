@@ -1,9 +1,7 @@
 -- The words give the fields; s + f is at least q, and the product fits a word within the limits.
 use native.Mathlib.Omega.{arith}
-use Rattle.entries.specs.Scores.{state_in}
 use Rattle.entries.proofs.Limits.{word_le}
 use Rattle.entries.proofs.Sound.{sound}
-use borrow.Author.Rules.{rules}
 use Rattle.entries.proofs.values.state_in.Goals as goal
 
 pub overflow_add-result : goal.overflow_add-result

@@ -1,7 +1,6 @@
 -- The words of the entry stand one behind the other.
 use mathlib.Core.Path.{refl}
 use Rattle.entries.specs.Words.{entry_at}
-use borrow.Author.Rules.{rules}
 use Rattle.entries.proofs.words.load.Goals as goal
 
 pub returns : goal.returns

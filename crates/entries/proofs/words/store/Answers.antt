@@ -3,7 +3,6 @@ use mathlib.Core.Path.{refl}
 use native.Mathlib.Omega.{arith}
 use lib.ListN.{length-set}
 use Rattle.entries.specs.Words.{put_entry}
-use borrow.Author.Rules.{rules}
 use Rattle.entries.proofs.words.store.Goals as goal
 
 pub bounds-b-at-2 : goal.bounds-b-at-2

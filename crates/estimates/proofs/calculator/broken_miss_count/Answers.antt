@@ -1,7 +1,6 @@
 -- The branches are those of the definition, operation by operation.
 use Rattle.estimates.specs.ComboBased.{broken_of}
 use lib.Ieee.{of_bits, of_int, round}
-use borrow.Author.Rules.{rules}
 use Rattle.estimates.proofs.calculator.broken_miss_count.Goals as goal
 
 pub returns-then-reached-threshold : goal.returns-then-reached-threshold

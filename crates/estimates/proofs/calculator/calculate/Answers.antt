@@ -2,7 +2,6 @@
 use Rattle.estimates.specs.Effective.{estimates_of}
 use borrow.Author.Tests.{eq-eqb, ne_eqb}
 use lib.Ieee.{of_bits, of_int, round}
-use borrow.Author.Rules.{rules}
 use Rattle.estimates.proofs.calculator.calculate.Goals as goal
 
 pub returns-then-total_hits-eq0 : goal.returns-then-total_hits-eq0

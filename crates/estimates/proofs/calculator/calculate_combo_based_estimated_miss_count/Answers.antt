@@ -2,7 +2,6 @@
 use Rattle.estimates.specs.ComboBased.{combo_based_of}
 use borrow.Author.Tests.{eq-eqb, ne_eqb}
 use Rattle.rules.proofs.Laws.{so}
-use borrow.Author.Rules.{rules}
 use Rattle.estimates.proofs.calculator.calculate_combo_based_estimated_miss_count.Goals as goal
 
 pub returns-then-attrs-eq0 : goal.returns-then-attrs-eq0

@@ -1,6 +1,5 @@
 -- With a score-based count that, else the combo-based one.
 use Rattle.estimates.specs.Effective.{effective_of}
-use borrow.Author.Rules.{rules}
 use Rattle.estimates.proofs.calculator.effective_miss_count.Goals as goal
 
 pub returns-in_default : goal.returns-in_default

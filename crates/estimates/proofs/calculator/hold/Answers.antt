@@ -1,6 +1,5 @@
 -- The formula is the definition's, operation by operation.
 use Rattle.estimates.specs.Effective.{held_of}
-use borrow.Author.Rules.{rules}
 use Rattle.estimates.proofs.calculator.hold.Goals as goal
 
 pub returns : goal.returns

@@ -1,6 +1,5 @@
 -- The formula is the definition's, operation by operation.
 use Rattle.estimates.specs.ComboBased.{lazer_of}
-use borrow.Author.Rules.{rules}
 use Rattle.estimates.proofs.calculator.lazer_miss_count.Goals as goal
 
 pub returns : goal.returns

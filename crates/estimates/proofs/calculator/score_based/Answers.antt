@@ -1,8 +1,6 @@
 -- Absent with slider accuracy; else the calculator's answer.
 use Rattle.estimates.specs.Effective.{score_based_for}
-use borrow.Author.Tests.{not-true, not-false}
 use Rattle.rules.proofs.Laws.{so}
-use borrow.Author.Rules.{rules}
 use Rattle.estimates.proofs.calculator.score_based.Goals as goal
 
 pub returns-then-not-is_classic : goal.returns-then-not-is_classic

@@ -1,6 +1,5 @@
 -- By cases on the origin.
 use Rattle.estimates.specs.Accuracy.{accuracy_of}
-use borrow.Author.Rules.{rules}
 use Rattle.estimates.proofs.score_state.accuracy.Goals as goal
 
 pub returns-in-Stable : goal.returns-in-Stable

@@ -1,6 +1,5 @@
 -- Six for each judgement.
 use Rattle.estimates.specs.Accuracy.{heaviest}
-use borrow.Author.Rules.{rules}
 use Rattle.estimates.proofs.score_state.full_weight.Goals as goal
 
 pub returns : goal.returns

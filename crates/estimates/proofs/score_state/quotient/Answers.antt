@@ -1,7 +1,6 @@
 -- The branches are those of the definition, operation by operation.
 use Rattle.estimates.specs.Accuracy.{quotient_of}
 use lib.Ieee.{of_bits, of_int, round}
-use borrow.Author.Rules.{rules}
 use Rattle.estimates.proofs.score_state.quotient.Goals as goal
 
 pub returns-then-distance : goal.returns-then-distance

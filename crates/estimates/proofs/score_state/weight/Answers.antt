@@ -1,6 +1,5 @@
 -- The sum is the definition's.
 use Rattle.estimates.specs.Accuracy.{weighted}
-use borrow.Author.Rules.{rules}
 use Rattle.estimates.proofs.score_state.weight.Goals as goal
 
 pub returns : goal.returns

@@ -1,7 +1,6 @@
 -- The formula is the definition's, operation by operation.
 use Rattle.estimates.specs.Accuracy.{without_slider_acc}
-use lib.Ieee.{of_bits, of_int, round}
-use borrow.Author.Rules.{rules}
+use lib.Ieee.{of_bits, round}
 use Rattle.estimates.proofs.score_state.without_slider_acc.Goals as goal
 
 pub returns : goal.returns

@@ -1,5 +1,4 @@
 -- Each field is that of the definition.
-use borrow.Author.Rules.{rules}
 use Rattle.host.proofs.answer.estimates_of.Goals as goal
 
 pub returns : goal.returns

@@ -1,5 +1,4 @@
 -- The three arms are those of the definition.
-use borrow.Author.Rules.{rules}
 use Rattle.host.proofs.answer.listed_answer_of.Goals as goal
 
 pub returns-in-Score : goal.returns-in-Score

@@ -1,5 +1,4 @@
 -- Attributes and estimates are those of the definition.
-use borrow.Author.Rules.{rules}
 use Rattle.host.proofs.answer.play_answer_in.Goals as goal
 
 pub returns : goal.returns

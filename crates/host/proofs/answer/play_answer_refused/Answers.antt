@@ -1,5 +1,4 @@
 -- No value: attributes and estimates are those of a refusal.
-use borrow.Author.Rules.{rules}
 use Rattle.host.proofs.answer.play_answer_refused.Goals as goal
 
 pub returns : goal.returns

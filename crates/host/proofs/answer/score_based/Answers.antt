@@ -1,6 +1,5 @@
 -- The two arms are those of the definition.
 use lib.Ieee.{of_bits, of_int}
-use borrow.Author.Rules.{rules}
 use Rattle.host.proofs.answer.score_based.Goals as goal
 
 pub returns-in-Absent : goal.returns-in-Absent

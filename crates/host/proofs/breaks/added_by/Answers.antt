@@ -2,7 +2,6 @@
 use borrow.Author.Tests.{eq-eqb, ne_eqb}
 use Rattle.rules.proofs.Laws.{so}
 use Rattle.host.specs.Breaks.{added_to}
-use borrow.Author.Rules.{rules}
 use Rattle.host.proofs.breaks.added_by.Goals as goal
 
 pub returns-then-answer-ne0 : goal.returns-then-answer-ne0

@@ -1,5 +1,4 @@
 -- The two arms are those of the definition.
-use borrow.Author.Rules.{rules}
 use Rattle.host.proofs.breaks.answer_with.Goals as goal
 
 pub returns-in-BadFactors : goal.returns-in-BadFactors

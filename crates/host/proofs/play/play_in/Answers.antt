@@ -1,6 +1,5 @@
 -- Each return is the case of the definition that the origin and the score are in.
 use Rattle.rules.proofs.Laws.{so}
-use borrow.Author.Rules.{rules}
 use Rattle.host.proofs.play.play_in.Goals as goal
 
 pub returns-in_default : goal.returns-in_default

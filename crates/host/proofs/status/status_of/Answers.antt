@@ -1,5 +1,4 @@
 -- The two arms are those of the definition.
-use borrow.Author.Rules.{rules}
 use Rattle.host.proofs.status.status_of.Goals as goal
 
 pub returns-in-Done : goal.returns-in-Done

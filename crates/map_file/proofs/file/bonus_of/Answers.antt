@@ -1,5 +1,4 @@
 -- By cases on the record and the object; a spinner's bonus is what `bonus` ensures.
-use borrow.Author.Rules.{rules}
 use Rattle.map_file.proofs.file.bonus_of.Goals as goal
 
 pub returns-in-Spinner : goal.returns-in-Spinner

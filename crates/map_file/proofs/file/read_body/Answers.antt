@@ -1,7 +1,6 @@
 -- By cases on the mark, as the definition.
 use borrow.Author.Tests.{eq-eqb, ne_eqb}
 use Rattle.map_file.specs.Order.{body_of}
-use borrow.Author.Rules.{rules}
 use Rattle.map_file.proofs.file.read_body.Goals as goal
 
 pub returns-then-mark-eq-MH : goal.returns-then-mark-eq-MH

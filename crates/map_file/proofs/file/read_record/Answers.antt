@@ -1,11 +1,10 @@
 -- Each return is what the definition computes from the tests on the way; the last check is a law on what the code keeps of the record.
 use mathlib.Core.Path.{sym}
-use borrow.Author.Tests.{lt-ltb, le-ltb, not-true, not-false}
+use borrow.Author.Tests.{lt-ltb, le-ltb}
 use Rattle.rules.specs.Refusals.{◌>>=◌, ◌>>◌, refuse◌when◌}
 use Rattle.map_file.specs.Order.{record_of, body_of}
 use Rattle.rules.proofs.Laws.{so}
 use Rattle.map_file.proofs.Bodies.{held_refused, held_over, held_good}
-use borrow.Author.Rules.{rules}
 use Rattle.map_file.proofs.file.read_record.Goals as goal
 
 pub returns-then-r-lt2 : goal.returns-then-r-lt2

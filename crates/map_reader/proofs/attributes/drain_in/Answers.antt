@@ -4,7 +4,6 @@ use native.Mathlib.Omega.{arith}
 use borrow.Author.Tests.{eq-eqb, ne_eqb}
 use Rattle.ruleset.proofs.Signs.{kept}
 use Rattle.map_reader.specs.Attributes.{drain_in}
-use borrow.Author.Rules.{rules}
 use Rattle.map_reader.proofs.attributes.drain_in.Goals as goal
 
 pub returns-then-map-eq0 : goal.returns-then-map-eq0

@@ -1,13 +1,10 @@
-use mathlib.Core.Path.{◌≡◌, refl, sym, ap, ◌∙◌}
-use Prim.Native.Nat.{ℕ, ◌-◌, ◌≤◌}
+use mathlib.Core.Path.{refl, sym, ap, ◌∙◌}
+use Prim.Native.Nat.{ℕ}
 use native.Mathlib.Omega.{arith}
 use lib.ListN.{drop}
-use borrow.Author.Tests.{not-true, not-false}
-use Rattle.rules.specs.Limits.{max_breaks}
 use Rattle.rules.proofs.Laws.{so}
-use Rattle.map_reader.specs.Map.{is_break, breaks_after, breaks_count}
+use Rattle.map_reader.specs.Map.{is_break}
 use Rattle.map_reader.proofs.Heads.{breaks_end, breaks_stop, breaks_next}
-use borrow.Author.Rules.{rules}
 use Rattle.map_reader.proofs.map.count_breaks.Goals as goal
 
 pub loop-count-init : goal.loop-count-init

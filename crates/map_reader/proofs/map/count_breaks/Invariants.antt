@@ -1,14 +1,8 @@
 -- What the definition counts from here on stays the same: each turn is one of its steps.
-use mathlib.Core.Path.{◌≡◌, refl, sym, ap, ◌∙◌}
-use Prim.Native.Nat.{ℕ, ◌-◌, ◌≤◌}
-use native.Mathlib.Omega.{arith}
-use lib.ListN.{drop}
-use borrow.Author.Tests.{not-true, not-false}
+use mathlib.Core.Path.{◌≡◌}
+use Prim.Native.Nat.{◌-◌, ◌≤◌}
 use Rattle.rules.specs.Limits.{max_breaks}
-use Rattle.rules.proofs.Laws.{so}
-use Rattle.map_reader.specs.Map.{is_break, breaks_after, breaks_count}
-use Rattle.map_reader.proofs.Heads.{breaks_end, breaks_stop, breaks_next}
-use borrow.Author.Rules.{rules}
+use Rattle.map_reader.specs.Map.{breaks_after, breaks_count}
 use Rattle.map_reader.proofs.map.count_breaks.Given as goal
 
 abbrev pub invariant-loop-count : goal.invariant-loop-count

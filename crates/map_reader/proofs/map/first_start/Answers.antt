@@ -4,7 +4,6 @@ use Prim.Native.Nat.{ℕ, ◌+◌}
 use lib.Ieee.{binary64, of_bits, of_int}
 use borrow.Author.Tests.{eq-eqb, ne_eqb}
 use Rattle.numbers.specs.Words.{word_at}
-use borrow.Author.Rules.{rules}
 use Rattle.map_reader.proofs.map.first_start.Goals as goal
 
 pub returns-then-objects-eq0 : goal.returns-then-objects-eq0

@@ -10,7 +10,6 @@ use Rattle.records.specs.Records.{break_of, record_read}
 use Rattle.map_file.proofs.Steps.{rest_is}
 use Rattle.map_reader.specs.Map.{is_break}
 use Rattle.map_reader.proofs.Heads.{good_not, good_is}
-use borrow.Author.Rules.{rules}
 use Rattle.map_reader.proofs.map.is_break.Goals as goal
 
 pub returns-then-s-at : goal.returns-then-s-at

@@ -2,7 +2,6 @@
 use mathlib.Core.Path.{ap, ◌∙◌}
 use Rattle.rules.proofs.Laws.{so}
 use Rattle.map_reader.specs.Map.{map_stopped, stop_in}
-use borrow.Author.Rules.{rules}
 use Rattle.map_reader.proofs.map.map_to.Goals as goal
 
 pub returns-in-Refused : goal.returns-in-Refused

@@ -5,7 +5,6 @@ use Rattle.rules.proofs.Laws.{so}
 use Rattle.records.specs.Records.{header_of}
 use Rattle.map_reader.specs.Map.{head_in}
 use Rattle.map_reader.proofs.Heads.{head_cut, head_marked, head_read, head_refused, head_good, head_by}
-use borrow.Author.Rules.{rules}
 use Rattle.map_reader.proofs.map.read_head.Goals as goal
 
 pub returns-then-s-eq0 : goal.returns-then-s-eq0

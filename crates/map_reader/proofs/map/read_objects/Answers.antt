@@ -7,7 +7,6 @@ use Rattle.map_reader.specs.Objects.{objects_at, Small}
 use Rattle.map_reader.specs.Map.{objects_from, rest_of, then_read}
 use Rattle.map_reader.proofs.Running.{small_start, small_ran}
 use Rattle.map_reader.proofs.Mapping.{ran_from}
-use borrow.Author.Rules.{rules}
 use Rattle.map_reader.proofs.map.read_objects.Goals as goal
 
 pub run-requires : goal.run-requires

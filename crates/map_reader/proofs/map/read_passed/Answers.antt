@@ -6,7 +6,6 @@ use Rattle.rules.proofs.Laws.{so}
 use Rattle.map_reader.specs.Map.{objects_of, MapReadOf}
 use Rattle.map_reader.proofs.Breaks.{head_reads, breaks_inside}
 use Rattle.map_reader.proofs.Mapping.{read_is, read_refused}
-use borrow.Author.Rules.{rules}
 use Rattle.map_reader.proofs.map.read_passed.Goals as goal
 
 pub read_objects-requires : goal.read_objects-requires

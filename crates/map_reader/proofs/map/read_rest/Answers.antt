@@ -2,7 +2,6 @@
 use mathlib.Core.Path.{ap, ◌∙◌}
 use Rattle.rules.proofs.Laws.{so}
 use Rattle.map_reader.specs.Map.{map_to, then_read}
-use borrow.Author.Rules.{rules}
 use Rattle.map_reader.proofs.map.read_rest.Goals as goal
 
 pub returns-in-OverBonus : goal.returns-in-OverBonus

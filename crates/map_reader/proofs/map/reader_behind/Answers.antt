@@ -1,5 +1,4 @@
 -- The rank is that of the definition, and the other fields stand in both.
-use borrow.Author.Rules.{rules}
 use Rattle.map_reader.proofs.map.reader_behind.Goals as goal
 
 pub returns : goal.returns

@@ -11,7 +11,6 @@ use Rattle.map_file.specs.Order.{record_of}
 use Rattle.map_file.proofs.Steps.{rest_is}
 use Rattle.map_reader.specs.Map.{stop_in}
 use Rattle.map_reader.proofs.Heads.{stop_refused, stop_next}
-use borrow.Author.Rules.{rules}
 use Rattle.map_reader.proofs.map.stop_at.Goals as goal
 
 pub returns-then-s-at : goal.returns-then-s-at

@@ -1,7 +1,5 @@
-use Prim.Native.Nat.{◌-◌}
 use Rattle.rules.proofs.Laws.{so}
-use Rattle.map_reader.proofs.Running.{Running, running_start, running_room, running_less, running_next, running_over, running_stop, running_end}
-use borrow.Author.Rules.{rules}
+use Rattle.map_reader.proofs.Running.{running_start, running_room, running_less, running_next, running_over, running_stop, running_end}
 use Rattle.map_reader.proofs.objects.run.Goals as goal
 
 pub loop-state-init : goal.loop-state-init

@@ -1,8 +1,6 @@
 -- Each turn is one step of the definition.
 use Prim.Native.Nat.{◌-◌}
-use Rattle.rules.proofs.Laws.{so}
-use Rattle.map_reader.proofs.Running.{Running, running_start, running_room, running_less, running_next, running_over, running_stop, running_end}
-use borrow.Author.Rules.{rules}
+use Rattle.map_reader.proofs.Running.{Running}
 use Rattle.map_reader.proofs.objects.run.Given as goal
 
 abbrev pub invariant-loop-state : goal.invariant-loop-state

@@ -1,7 +1,6 @@
 -- The step is the simulator's own, of a spinner or of a circle.
 use mathlib.Core.Path.{sym, ap, ◌∙◌}
 use mathlib.Core.Bool.{Bool}
-use borrow.Author.Rules.{rules}
 use Rattle.records.specs.Objects.{spinner}
 use Rattle.simulator.specs.Hits.{hits_of}
 use Rattle.simulator.specs.Walk.{walk}

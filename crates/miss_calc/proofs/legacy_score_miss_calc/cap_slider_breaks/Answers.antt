@@ -1,6 +1,5 @@
 -- The branches are those of the definition, operation by operation.
 use Rattle.miss_calc.specs.Threshold.{capped_of}
-use borrow.Author.Rules.{rules}
 use Rattle.miss_calc.proofs.legacy_score_miss_calc.cap_slider_breaks.Goals as goal
 
 pub returns-then-slider_breaks-float : goal.returns-then-slider_breaks-float

@@ -1,7 +1,6 @@
 -- The formula is the definition's.
 use Rattle.miss_calc.specs.Threshold.{threshold_of}
 use lib.Ieee.{of_bits, round}
-use borrow.Author.Rules.{rules}
 use Rattle.miss_calc.proofs.legacy_score_miss_calc.full_combo_threshold.Goals as goal
 
 pub returns : goal.returns

@@ -1,7 +1,6 @@
 -- A chain of factors, each the definition's.
 use Rattle.miss_calc.specs.Multiplier.{score_multiplier_of}
 use lib.Ieee.{of_bits, of_int, round}
-use borrow.Author.Rules.{rules}
 use Rattle.miss_calc.proofs.legacy_score_miss_calc.get_legacy_score_multiplier.Goals as goal
 
 pub returns : goal.returns

@@ -1,5 +1,5 @@
 -- `numbers::bits::f32_from_bits` is right since the masked pattern is above that of infinity just where it is a NaN's.
-use Rattle.std.proofs.Common.{refl, rules}
+use Rattle.std.proofs.Common.{refl}
 use lib.Ieee.{binary32, div, of_bits}
 use Rattle.numbers.proofs.bits.Laws.{nan_pattern, number_pattern}
 use Rattle.numbers.proofs.bits.f32_from_bits.Goals as goal

@@ -1,5 +1,5 @@
 -- `numbers::bits::f64_to_bits` is right since `x != x` holds just of a NaN, whose bits the definition writes as the constant.
-use Rattle.std.proofs.Common.{sym, ap, rules}
+use Rattle.std.proofs.Common.{sym, ap}
 use lib.Ieee.{binary64, to_bits}
 use Rattle.numbers.proofs.Nan.{nan_of_ne, number_of_eq}
 use Rattle.numbers.proofs.bits.f64_to_bits.Goals as goal

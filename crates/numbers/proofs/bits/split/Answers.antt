@@ -1,6 +1,6 @@
 -- `numbers::bits::split` is right since the masks and shifts take the pattern's fields, by which the definition of a float's bits reads a value: the digits,
 -- with a leading one unless the field is 0, times a power of two by the field. Assumes nothing.
-use Rattle.std.proofs.Common.{◌≡◌, ℕ, ◌+◌, ◌-◌, ◌/◌, ◌^◌, Bool, cond, T, sym, refl, ap, ◌∙◌, subst, arith, rules, eq-eqb, ne_eqb}
+use Rattle.std.proofs.Common.{◌≡◌, ℕ, ◌+◌, ◌-◌, ◌/◌, ◌^◌, Bool, cond, T, sym, refl, ap, ◌∙◌, subst, arith, eq-eqb, ne_eqb}
 use lib.Bits.{bit_or, mask_lt, or_shifted_r}
 use lib.Ieee.{nan, inf, binary64, of_fields}
 use Rattle.numbers.specs.declared.bits.Parts.TheVariants.{Finite}

@@ -1,5 +1,5 @@
 -- `numbers::rounding::cut` is right since between its ends the sum is x rounded, which is x without its fraction, or one more. Assumes nothing.
-use Rattle.std.proofs.Common.{Bool, not, T, sym, subst, arith, rules}
+use Rattle.std.proofs.Common.{Bool, not, T, sym, subst, arith}
 use lib.Ieee.{of_bits}
 use lib.Ieee.Casts.{to_unsigned-lt}
 use Rattle.numbers.proofs.rounding.Cutting.{CutBySum, cut_low, cut_high, cut_by_sum}

@@ -1,6 +1,6 @@
 -- `numbers::rounding::magnitude` is right since 2 ^ exponent cancels against 2 ^ 1074, and from an exponent of 1074 on the value is at least the significand, which
 -- has 53 digits. Assumes nothing.
-use Rattle.std.proofs.Common.{◌^◌, ◌≤◌, arith, rules}
+use Rattle.std.proofs.Common.{◌^◌, ◌≤◌, arith}
 use Rattle.numbers.proofs.rounding.Closest.{closest_shift, closest_large}
 use Rattle.numbers.proofs.rounding.magnitude.Goals as goal
 

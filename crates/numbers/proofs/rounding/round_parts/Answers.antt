@@ -1,6 +1,6 @@
 -- `numbers::rounding::round_parts` is right since a finite x is significand * 2 ^ exponent / 2 ^ 1074, and the nearest whole number is the same for every
 -- fraction that x equals; what is above 2 ^ 31 makes no difference to the saturated result. Assumes nothing.
-use Rattle.std.proofs.Common.{ℕ, ◌*◌, ◌^◌, T, sym, ap, ◌∙◌, subst, pow_pos, w32, rules}
+use Rattle.std.proofs.Common.{ℕ, ◌*◌, ◌^◌, T, sym, ap, ◌∙◌, subst, pow_pos, w32}
 use borrow.Author.Rules.{sfits_of}
 use lib.Ieee.Nearest.{closest}
 use mir.ValLaws.{to_z-of_z}

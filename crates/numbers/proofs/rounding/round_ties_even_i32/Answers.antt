@@ -1,6 +1,6 @@
 -- `numbers::rounding::round_ties_even_i32` is right since the sum with 3 * 2 ^ 51 is x rounded, and its bits are that many above those of 3 * 2 ^ 51; any other x
 -- goes by its parts. Assumes nothing.
-use Rattle.std.proofs.Common.{◌≡◌, ◌^◌, ◌<◌, Bool, not, T, ℤ, pos, ◌-ℤ◌, sym, ap, ◌∙◌, subst, arith, w32, w64, SFits, to_z, of_z, rules}
+use Rattle.std.proofs.Common.{◌≡◌, ◌^◌, ◌<◌, Bool, not, T, ℤ, pos, ◌-ℤ◌, sym, ap, ◌∙◌, subst, arith, w32, w64, SFits, to_z, of_z}
 use borrow.Author.Rules.{sfits_of}
 use lib.Ieee.{binary64, add, of_bits, to_bits}
 use lib.Signed.{mag}

@@ -1,5 +1,5 @@
 -- `numbers::rounding::saturate_i32` is right since each of its tests picks the end of the range, or the number itself where it is in the range.
-use Rattle.std.proofs.Common.{arith, rules}
+use Rattle.std.proofs.Common.{arith}
 use Rattle.numbers.proofs.rounding.Range.{saturated_low, saturated_high, saturated_plain, saturated_minus, neg_fits}
 use Rattle.numbers.proofs.rounding.saturate_i32.Goals as goal
 

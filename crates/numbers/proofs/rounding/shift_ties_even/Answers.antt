@@ -1,6 +1,6 @@
 -- `numbers::rounding::shift_ties_even` is right since the mask leaves the remainder by 2 ^ shift: twice the remainder against 2 ^ shift says which of two
 -- neighbours is nearer, and at a tie q + q % 2 is the even one. From a shift of 54 on the fraction is below a half. Assumes nothing.
-use Rattle.std.proofs.Common.{◌≡◌, ℕ, ◌-◌, ◌*◌, ◌/◌, ◌%◌, ◌^◌, ◌<◌, sym, ◌∙◌, lt_of_lt_of_le, le_antisymm, div-le_self, add-one, arith, pow_pos, pow_mono, rules}
+use Rattle.std.proofs.Common.{◌≡◌, ℕ, ◌-◌, ◌*◌, ◌/◌, ◌%◌, ◌^◌, ◌<◌, sym, ◌∙◌, lt_of_lt_of_le, le_antisymm, div-le_self, add-one, arith, pow_pos, pow_mono}
 use lib.Bits.{and_le_l}
 use Rattle.numbers.proofs.rounding.Closest.{closest_lt, closest_gt, closest_eq, closest_zero, one_shl, unmasked}
 use Rattle.numbers.proofs.rounding.shift_ties_even.Goals as goal

@@ -1,4 +1,4 @@
-use Rattle.std.proofs.Common.{◌≡◌, ℕ, ◌+◌, ◌-◌, ◌*◌, ◌^◌, ◌<◌, ◌≤◌, get_or, ap, ◌∙◌, add-zero, arith, rules}
+use Rattle.std.proofs.Common.{◌≡◌, ℕ, ◌+◌, ◌-◌, ◌*◌, ◌^◌, ◌<◌, get_or, ap, ◌∙◌, add-zero, arith, rules}
 use native.Mathlib.Nat.{sub_self, sub-zero}
 use Rattle.numbers.specs.Words.{word_at}
 use Rattle.numbers.proofs.words.Reading.{word_at_step, bound_step, bytes_mono}

@@ -1,9 +1,7 @@
 -- `numbers::words::whole_word` is right since after each turn v is the number of the bytes from `at + i` on: one more byte below makes it 256 times as
 -- high, plus that byte. With n at most 8 it stays below 256 ^ 8, so nothing wraps. Assumes nothing.
-use Rattle.std.proofs.Common.{◌≡◌, ℕ, ◌+◌, ◌-◌, ◌*◌, ◌^◌, ◌<◌, ◌≤◌, get_or, ap, ◌∙◌, add-zero, arith, rules}
-use native.Mathlib.Nat.{sub_self, sub-zero}
+use Rattle.std.proofs.Common.{◌≡◌, ◌+◌, ◌-◌, ◌^◌, ◌<◌, ◌≤◌}
 use Rattle.numbers.specs.Words.{word_at}
-use Rattle.numbers.proofs.words.Reading.{word_at_step, bound_step, bytes_mono}
 use Rattle.numbers.proofs.words.whole_word.Given as goal
 
 abbrev pub invariant-loop-i : goal.invariant-loop-i

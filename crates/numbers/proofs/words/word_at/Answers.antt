@@ -1,5 +1,5 @@
 -- `numbers::words::word_at` is right since the bytes that the end of the input cuts off count as 0: they add nothing. Assumes nothing.
-use Rattle.std.proofs.Common.{◌≡◌, ◌-◌, ◌≤◌, min, length, sym, ◌∙◌, lt_of_lt_of_le, arith, rules}
+use Rattle.std.proofs.Common.{◌≡◌, ◌-◌, ◌≤◌, min, length, sym, ◌∙◌, lt_of_lt_of_le, arith}
 use Rattle.numbers.proofs.words.Laws.{word_at_past, word_at-cut}
 use Rattle.numbers.proofs.words.Reading.{bytes_mono}
 use Rattle.numbers.proofs.words.word_at.Goals as goal

@@ -1,5 +1,4 @@
 -- Both cases are the definition's.
-use borrow.Author.Rules.{rules}
 use Rattle.records.proofs.fields.double_if.Goals as goal
 
 pub returns-then-ok : goal.returns-then-ok

@@ -1,6 +1,5 @@
 -- The field is the float of the word at its place, held to the range.
 use mathlib.Core.Path.{sym}
-use borrow.Author.Rules.{rules}
 use Rattle.records.proofs.fields.duration_at.Goals as goal
 
 pub returns : goal.returns

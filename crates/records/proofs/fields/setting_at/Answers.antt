@@ -1,7 +1,6 @@
 -- The field is the float of the word at its place, held to the range.
 use mathlib.Core.Path.{sym}
 use Rattle.rules.proofs.Laws.{so}
-use borrow.Author.Rules.{rules}
 use Rattle.records.proofs.fields.setting_at.Goals as goal
 
 pub returns-then-is_setting : goal.returns-then-is_setting

@@ -2,7 +2,6 @@
 use mathlib.Core.Path.{◌≡◌, refl, sym}
 use Prim.Native.Nat.{ℕ, ◌-◌, ◌*◌, ◌%◌, ◌^◌, ◌≤◌, ◌<◌}
 use native.Mathlib.Omega.{arith}
-use borrow.Author.Rules.{rules}
 use lib.Bits.{bit_and, and_mask}
 use lib.Ieee.{binary64}
 use Rattle.numbers.proofs.Patterns.{within_bits, beyond_bits}

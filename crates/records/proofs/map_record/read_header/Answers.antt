@@ -1,10 +1,8 @@
 -- Each return is what the definition computes from the tests and fields on the way.
-use mathlib.Core.Path.{sym}
 use borrow.Author.Tests.{lt-ltb, le-ltb}
 use Rattle.rules.specs.Refusals.{◌>>=◌, ◌>>◌, refuse◌when◌}
 use Rattle.records.specs.Records.{header_of}
 use Rattle.rules.proofs.Laws.{so}
-use borrow.Author.Rules.{rules}
 use Rattle.records.proofs.map_record.read_header.Goals as goal
 
 pub returns-then-r-lt-SIZE : goal.returns-then-r-lt-SIZE

@@ -1,13 +1,12 @@
 use mathlib.Core.Path.{◌≡◌, refl, sym, ap, ◌∙◌}
 use mathlib.Core.List.{List, [], ◌∷◌}
-use Prim.Native.Nat.{ℕ, ◌-◌, ◌≤◌}
+use Prim.Native.Nat.{ℕ, ◌-◌}
 use native.Mathlib.Omega.{arith}
-use borrow.Author.Rules.{rules}
 use lib.Bits.{and_le_r}
 use lib.ListN.{length, get_or}
 use Rattle.records.specs.Records.{nested_of}
 use Rattle.records.specs.declared.object_record.Nested.TheVariants.{Counts}
-use Rattle.records.proofs.Nested.{Passed, passed_none, passed_next, tail, no_tail}
+use Rattle.records.proofs.Nested.{passed_none, passed_next, tail, no_tail}
 use Rattle.records.proofs.object_record.count_nested.Goals as goal
 
 list_none : (l : List ℕ) → length l ≡ 0 → l ≡ []

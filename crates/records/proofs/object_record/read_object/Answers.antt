@@ -1,7 +1,6 @@
 -- By cases on the mark, as the definition.
 use borrow.Author.Tests.{eq-eqb, ne_eqb}
 use Rattle.records.specs.Records.{object_of}
-use borrow.Author.Rules.{rules}
 use Rattle.records.proofs.object_record.read_object.Goals as goal
 
 pub returns-then-mark-eq-CI : goal.returns-then-mark-eq-CI

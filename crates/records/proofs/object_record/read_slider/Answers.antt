@@ -9,7 +9,6 @@ use borrow.Author.Tests.{lt-ltb, le-ltb}
 use Rattle.rules.specs.Refusals.{◌>>=◌, ◌>>◌, refuse◌when◌}
 use Rattle.records.specs.Records.{slider_of, nested_of, nested_view}
 use Rattle.rules.proofs.Laws.{so}
-use borrow.Author.Rules.{rules}
 use Rattle.records.proofs.object_record.read_slider.Goals as goal
 
 pub returns-then-r-lt-SLIDER_SIZE : goal.returns-then-r-lt-SLIDER_SIZE

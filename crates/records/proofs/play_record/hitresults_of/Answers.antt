@@ -1,6 +1,5 @@
 -- Each field is the word at its place.
 use Rattle.play_state.specs.Play.{hitresults_of}
-use borrow.Author.Rules.{rules}
 use Rattle.records.proofs.play_record.hitresults_of.Goals as goal
 
 pub returns : goal.returns

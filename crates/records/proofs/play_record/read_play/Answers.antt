@@ -4,7 +4,6 @@ use borrow.Author.Tests.{lt-ltb, le-ltb}
 use Rattle.rules.specs.Refusals.{◌>>=◌, ◌>>◌, refuse◌when◌}
 use Rattle.records.specs.Records.{play_of}
 use Rattle.rules.proofs.Laws.{so}
-use borrow.Author.Rules.{rules}
 use Rattle.records.proofs.play_record.read_play.Goals as goal
 
 pub returns-then-r-lt-SIZE : goal.returns-then-r-lt-SIZE

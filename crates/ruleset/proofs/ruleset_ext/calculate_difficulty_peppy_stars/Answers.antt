@@ -1,5 +1,5 @@
 -- The formula is the definition.
-use Rattle.std.proofs.Common.{◌∙◌, rules}
+use Rattle.std.proofs.Common.{◌∙◌}
 use lib.Ieee.{of_int, of_bits}
 use Rattle.ruleset.specs.Stars.{stars_of}
 use Rattle.ruleset.proofs.Signs.{kept, narrow}

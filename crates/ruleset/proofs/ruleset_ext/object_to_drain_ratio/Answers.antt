@@ -1,5 +1,5 @@
 -- The two arms are those of the definition, by the word that the drain is held in.
-use Rattle.std.proofs.Common.{◌∙◌, rules}
+use Rattle.std.proofs.Common.{◌∙◌}
 use lib.Ieee.{of_int, of_bits}
 use Rattle.ruleset.proofs.Ratios.{at_zero, at_other}
 use Rattle.ruleset.proofs.Signs.{kept}

@@ -1,5 +1,5 @@
 -- Both parts are small, so their sum fits.
-use Rattle.std.proofs.Common.{◌∙◌, arith, rules}
+use Rattle.std.proofs.Common.{◌∙◌, arith}
 use Rattle.ruleset.proofs.Signs.{kept, mag_add, sum_of}
 use borrow.Author.Rules.{sfits_of}
 use Rattle.ruleset.proofs.score_multiplier.add_break.Goals as goal

@@ -1,6 +1,5 @@
-use Rattle.std.proofs.Common.{◌≡◌, ◌+◌, ◌-◌, ◌*◌, ◌^◌, ◌≤◌, length, drop, ℤ, ◌+ℤ◌, ap, ◌∙◌, arith, w64, to_z}
+use Rattle.std.proofs.Common.{◌+◌, drop, ℤ, ◌+ℤ◌, ap, ◌∙◌, arith, w64, to_z}
 use lib.IntN.{+ℤ_idl}
-use lib.Signed.{mag}
 use Rattle.ruleset.specs.Drain.{breaks_length, breaks_of}
 use Rattle.ruleset.proofs.Signs.{kept}
 use Rattle.ruleset.proofs.Breaks.{goes_on, stops, no_more, pair_at, pairs_end}

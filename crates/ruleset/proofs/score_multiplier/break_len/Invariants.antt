@@ -1,10 +1,7 @@
 -- What is counted and the breaks that are left make up the whole.
-use Rattle.std.proofs.Common.{◌≡◌, ◌+◌, ◌-◌, ◌*◌, ◌^◌, ◌≤◌, length, drop, ℤ, ◌+ℤ◌, ap, ◌∙◌, arith, w64, to_z}
-use lib.IntN.{+ℤ_idl}
+use Rattle.std.proofs.Common.{◌≡◌, ◌-◌, ◌*◌, ◌^◌, ◌≤◌, length, drop, ◌+ℤ◌}
 use lib.Signed.{mag}
 use Rattle.ruleset.specs.Drain.{breaks_length, breaks_of}
-use Rattle.ruleset.proofs.Signs.{kept}
-use Rattle.ruleset.proofs.Breaks.{goes_on, stops, no_more, pair_at, pairs_end}
 use Rattle.ruleset.proofs.score_multiplier.break_len.Given as goal
 
 abbrev pub invariant-loop-i : goal.invariant-loop-i

@@ -1,7 +1,6 @@
-use Rattle.std.proofs.Common.{◌≡◌, ◌+◌, ◌-◌, ◌*◌, ◌^◌, ◌≤◌, ℤ, ◌+ℤ◌, sym, refl, ap, ◌∙◌, arith, w64, to_z}
+use Rattle.std.proofs.Common.{◌+◌, ◌-◌, ℤ, ◌+ℤ◌, sym, refl, ap, ◌∙◌, arith, w64, to_z}
 use lib.IntN.{+ℤ_idl}
-use lib.Signed.{mag}
-use Rattle.ruleset.specs.Drain.{breaks_length, length_of, breaks_from, breaks_in}
+use Rattle.ruleset.specs.Drain.{breaks_length, length_of, breaks_from}
 use Rattle.ruleset.proofs.Signs.{kept}
 use Rattle.ruleset.proofs.Breaks.{goes_on, stops, no_more, record_at, records_end}
 use native.Mathlib.Nat.{sub-zero}

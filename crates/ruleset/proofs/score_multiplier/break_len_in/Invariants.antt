@@ -1,13 +1,7 @@
 -- What is counted and the break records that are left make up the whole.
-use Rattle.std.proofs.Common.{◌≡◌, ◌+◌, ◌-◌, ◌*◌, ◌^◌, ◌≤◌, ℤ, ◌+ℤ◌, sym, refl, ap, ◌∙◌, arith, w64, to_z}
-use lib.IntN.{+ℤ_idl}
+use Rattle.std.proofs.Common.{◌≡◌, ◌+◌, ◌-◌, ◌*◌, ◌^◌, ◌≤◌, ◌+ℤ◌}
 use lib.Signed.{mag}
-use Rattle.ruleset.specs.Drain.{breaks_length, length_of, breaks_from, breaks_in}
-use Rattle.ruleset.proofs.Signs.{kept}
-use Rattle.ruleset.proofs.Breaks.{goes_on, stops, no_more, record_at, records_end}
-use native.Mathlib.Nat.{sub-zero}
-use Rattle.numbers.specs.Words.{word_at}
-use lib.Ieee.{Float, binary64, lt, of_bits}
+use Rattle.ruleset.specs.Drain.{breaks_length, breaks_from, breaks_in}
 use Rattle.ruleset.proofs.score_multiplier.break_len_in.Given as goal
 
 abbrev pub invariant-loop-i : goal.invariant-loop-i

@@ -1,5 +1,5 @@
 -- Both lengths are small, so their difference fits, and its quotient is the definition.
-use Rattle.std.proofs.Common.{◌-ℤ◌, ◌∙◌, arith, rules}
+use Rattle.std.proofs.Common.{◌-ℤ◌, ◌∙◌, arith}
 use Rattle.ruleset.proofs.Signs.{kept, mag_sub, mag_quot, difference, quotient}
 use borrow.Author.Rules.{sfits_of}
 use Rattle.ruleset.proofs.score_multiplier.drain_len.Goals as goal

@@ -1,5 +1,5 @@
 -- Both ends fit 32 bits, so their difference fits 64.
-use Rattle.std.proofs.Common.{◌∙◌, arith, rules}
+use Rattle.std.proofs.Common.{◌∙◌, arith}
 use Rattle.ruleset.proofs.Signs.{narrow, widened, mag_sub, narrow_difference}
 use borrow.Author.Rules.{sfits_of}
 use Rattle.ruleset.proofs.score_multiplier.length_between.Goals as goal

@@ -1,5 +1,5 @@
 -- Settings in their range give stars from 0 to 7, so the cast keeps them.
-use Rattle.std.proofs.Common.{T, ℤ, nat_abs, sym, ap, ◌∙◌, subst, arith, rules}
+use Rattle.std.proofs.Common.{T, ℤ, nat_abs, sym, ap, ◌∙◌, subst, arith}
 use lib.Signed.{non_neg}
 use Rattle.ruleset.specs.Stars.{stars_of}
 use Rattle.ruleset.proofs.Signs.{kept, narrow}

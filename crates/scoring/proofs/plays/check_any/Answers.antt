@@ -1,12 +1,10 @@
 use mathlib.Core.Path.{sym, ap, ◌∙◌}
-use Prim.Native.Nat.{ℕ, ◌-◌}
 use native.Mathlib.Omega.{arith}
-use lib.ListN.{length}
 use Rattle.rules.proofs.Laws.{so}
 use Rattle.play_reader.proofs.Playing.{read_inside}
 use Rattle.play_score.proofs.Exceeding.{exceeds_refused, exceeds_not}
 use Rattle.marks.proofs.Marked.{mark_there, anew_is, marked_exceeds}
-use Rattle.scoring.specs.View.{Playing, checked_of}
+use Rattle.scoring.specs.View.{checked_of}
 use Rattle.scoring.proofs.Playing.{playing_cut, playing_refused, playing_more, playing_end}
 use borrow.Author.Rules.{rules}
 use Rattle.scoring.proofs.plays.check_any.Goals as goal

@@ -1,11 +1,9 @@
 use mathlib.Core.Path.{sym, ap}
-use Prim.Native.Nat.{◌-◌}
 use native.Mathlib.Omega.{arith}
-use lib.ListN.{length}
 use Rattle.rules.proofs.Laws.{so}
 use Rattle.play_reader.proofs.Playing.{read_inside}
-use Rattle.scoring.specs.View.{Attributed, checked_of}
-use Rattle.scoring.proofs.Playing.{PlayingOn, on_start, on_refused, on_more, playing_cut, playing_end}
+use Rattle.scoring.specs.View.{checked_of}
+use Rattle.scoring.proofs.Playing.{on_start, on_refused, on_more, playing_cut, playing_end}
 use borrow.Author.Rules.{rules}
 use Rattle.scoring.proofs.plays.check_behind.Goals as goal
 

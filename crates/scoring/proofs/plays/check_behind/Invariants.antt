@@ -1,13 +1,8 @@
 -- Each play is the definition's next, scored on the objects that it passed; where marks pay, it and all behind it are scored from them.
-use mathlib.Core.Path.{sym, ap}
 use Prim.Native.Nat.{◌-◌}
-use native.Mathlib.Omega.{arith}
 use lib.ListN.{length}
-use Rattle.rules.proofs.Laws.{so}
-use Rattle.play_reader.proofs.Playing.{read_inside}
-use Rattle.scoring.specs.View.{Attributed, checked_of}
-use Rattle.scoring.proofs.Playing.{PlayingOn, on_start, on_refused, on_more, playing_cut, playing_end}
-use borrow.Author.Rules.{rules}
+use Rattle.scoring.specs.View.{Attributed}
+use Rattle.scoring.proofs.Playing.{PlayingOn}
 use Rattle.scoring.proofs.plays.check_behind.Given as goal
 
 abbrev pub invariant-loop-at : goal.invariant-loop-at

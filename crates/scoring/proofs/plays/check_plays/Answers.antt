@@ -6,7 +6,6 @@ use Rattle.map_reader.proofs.Attributed.{complete, attributes_are}
 use Rattle.play_reader.proofs.Playing.{map_out}
 use Rattle.scoring.specs.View.{refuses}
 use Rattle.scoring.proofs.Answers.{start_refused, check_refused, check_good, plays_good}
-use borrow.Author.Rules.{rules}
 use Rattle.scoring.proofs.plays.check_plays.Goals as goal
 
 pub attributes_of-a-requires : goal.attributes_of-a-requires

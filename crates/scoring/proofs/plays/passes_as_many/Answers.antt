@@ -1,5 +1,4 @@
 -- Both are the smaller of two numbers.
-use borrow.Author.Rules.{rules}
 use Rattle.scoring.proofs.plays.passes_as_many.Goals as goal
 
 pub returns : goal.returns

@@ -2,7 +2,6 @@
 use mathlib.Core.Path.{sym, ◌∙◌}
 use Rattle.marks.proofs.Marked.{anew_is}
 use Rattle.scoring.proofs.Playing.{same_passed}
-use borrow.Author.Rules.{rules}
 use Rattle.scoring.proofs.plays.score_behind.Goals as goal
 
 pub returns-then-passes_as_many : goal.returns-then-passes_as_many

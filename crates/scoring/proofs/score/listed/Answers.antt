@@ -1,5 +1,4 @@
 -- The two arms are those of the definition.
-use borrow.Author.Rules.{rules}
 use Rattle.scoring.proofs.score.listed.Goals as goal
 
 pub returns-in-Ahead : goal.returns-in-Ahead

@@ -3,7 +3,6 @@ use mathlib.Core.Path.{sym, ap, subst}
 use Rattle.scoring.specs.Scores.{map_score_of}
 use Rattle.scoring.specs.View.{PlaysOf}
 use Rattle.scoring.proofs.Answers.{plays_refused, map_scored}
-use borrow.Author.Rules.{rules}
 use Rattle.scoring.proofs.score.score_map.Goals as goal
 
 pub returns-in-Refused : goal.returns-in-Refused

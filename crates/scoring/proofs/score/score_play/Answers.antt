@@ -3,7 +3,6 @@ use mathlib.Core.Path.{sym, ap, ◌∙◌, subst}
 use Rattle.scoring.specs.Scores.{given_play_of}
 use Rattle.scoring.specs.View.{PlaysOf}
 use Rattle.scoring.proofs.Answers.{plays_refused, play_scored}
-use borrow.Author.Rules.{rules}
 use Rattle.scoring.proofs.score.score_play.Goals as goal
 
 pub returns-in-Refused : goal.returns-in-Refused

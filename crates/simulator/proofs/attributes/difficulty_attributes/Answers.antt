@@ -1,7 +1,6 @@
 -- Each field is that of the state or of the counts, which their limits hold in 32 bits, and the product fits.
 use Rattle.simulator.specs.Attributes.{difficulty_attributes_of}
 use Rattle.simulator.proofs.Bounds.{product_fits}
-use borrow.Author.Rules.{rules}
 use Rattle.simulator.proofs.attributes.difficulty_attributes.Goals as goal
 
 pub overflow_mul-score : goal.overflow_mul-score

@@ -1,6 +1,5 @@
 -- Each field is what its call gives.
 use Rattle.simulator.specs.Attributes.{score_attributes_of}
-use borrow.Author.Rules.{rules}
 use Rattle.simulator.proofs.attributes.score_attributes.Goals as goal
 
 pub returns : goal.returns

@@ -1,6 +1,5 @@
 -- The score of its half spins.
 use Rattle.simulator.specs.Nested.{spinner_score_of}
-use borrow.Author.Rules.{rules}
 use Rattle.simulator.proofs.legacy_score.calculate_spinner_score.Goals as goal
 
 pub returns : goal.returns

@@ -2,7 +2,6 @@
 use lib.Ieee.{of_bits, of_int, round}
 use borrow.Author.Tests.{eq-eqb, ne_eqb}
 use Rattle.slider_breaks.specs.SliderBreaks.{slider_breaks_of}
-use borrow.Author.Rules.{rules}
 use Rattle.slider_breaks.proofs.calculator.calculate_estimated_slider_breaks.Goals as goal
 
 pub returns-then-not-is_classic : goal.returns-then-not-is_classic

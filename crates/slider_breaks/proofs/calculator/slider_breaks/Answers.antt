@@ -1,7 +1,6 @@
 -- The branches are those of the definition.
 use lib.Ieee.{of_bits, of_int}
 use Rattle.slider_breaks.specs.SliderBreaks.{estimated_breaks}
-use borrow.Author.Rules.{rules}
 use Rattle.slider_breaks.proofs.calculator.slider_breaks.Goals as goal
 
 pub returns-then-effective : goal.returns-then-effective

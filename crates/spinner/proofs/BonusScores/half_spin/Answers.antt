@@ -9,7 +9,7 @@ use borrow.Author.Tests.{lt-ltb}
 use Rattle.spinner.specs.Bonus.{is_large, is_small, half_spin_points, sums_before}
 use Rattle.spinner.specs.declared.BonusScores.{BonusScores}
 use Rattle.spinner.proofs.Walks.{next_large, next_small, next_none, points_most, large_not, small_not}
-use Rattle.std.proofs.lemmas.Bool.{ne_eqb, eq-eqb}
+use Rattle.std.proofs.lemmas.Bool.{ne_eqb}
 use Rattle.spinner.proofs.BonusScores.half_spin.Goals as goal
 use Rattle.spinner.proofs.BonusScores.half_spin.Goals.{Joined-else-before-i}
 

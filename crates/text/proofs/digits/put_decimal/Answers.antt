@@ -1,7 +1,6 @@
 -- `text::digits::put_decimal` is right since the digits of `io::decimal`, the fewest that hold the number, are its decimal digits. Assumes nothing.
 use mathlib.Core.Path.{sym, ◌∙◌}
 use Rattle.text.proofs.Numbers.{fewest_decimal}
-use borrow.Author.Rules.{rules}
 use Rattle.text.proofs.digits.put_decimal.Goals as goal
 
 pub returns : goal.returns

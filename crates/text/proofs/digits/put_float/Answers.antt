@@ -1,7 +1,6 @@
 -- `text::digits::put_float` is right since `x != x` is the test for a NaN. Assumes nothing.
 use Rattle.numbers.proofs.Nan.{ne_self}
 use Rattle.text.specs.Numbers.{float_text}
-use borrow.Author.Rules.{rules}
 use Rattle.text.proofs.digits.put_float.Goals as goal
 
 pub returns-then-x : goal.returns-then-x

@@ -5,7 +5,7 @@ use native.Mathlib.Nat.{lt_of_not-le, le_of_lt}
 use native.Mathlib.Decide.{dec_le}
 use native.Mathlib.Omega.{arith}
 use borrow.Author.Rules.{rules}
-use lib.ListN.{length, take, drop, set, get_or, length-set, drop_of_length-le}
+use lib.ListN.{length, set, get_or, length-set, drop_of_length-le}
 use lib.Seq.{paste, paste-zero, paste-suc, take_all}
 use Rattle.text.specs.Space.{put_at, behind}
 use Rattle.text.proofs.pieces.put_text.Goals as goal

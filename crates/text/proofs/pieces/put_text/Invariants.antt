@@ -1,14 +1,8 @@
 -- `text::pieces::put_text` is right since each turn copies the next byte to its place, and the loop ends where the text or the space does. Assumes nothing.
-use mathlib.Core.Path.{◌≡◌, refl, sym, ap, ◌∙◌}
-use mathlib.Core.List.{List}
-use Prim.Native.Nat.{ℕ, suc, ◌+◌, ◌-◌, ◌≤◌, ◌<◌, min}
-use native.Mathlib.Nat.{lt_of_not-le, le_of_lt}
-use native.Mathlib.Decide.{dec_le}
-use native.Mathlib.Omega.{arith}
-use borrow.Author.Rules.{rules}
-use lib.ListN.{length, take, drop, set, get_or, length-set, drop_of_length-le}
-use lib.Seq.{paste, paste-zero, paste-suc, take_all}
-use Rattle.text.specs.Space.{put_at, behind}
+use mathlib.Core.Path.{◌≡◌}
+use Prim.Native.Nat.{◌-◌, ◌≤◌}
+use lib.ListN.{length}
+use lib.Seq.{paste}
 use Rattle.text.proofs.pieces.put_text.Given as goal
 
 abbrev pub invariant-loop-i : goal.invariant-loop-i

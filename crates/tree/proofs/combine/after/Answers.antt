@@ -1,12 +1,10 @@
 -- The entry as read is checked, then the combination.
 use mathlib.Core.Path.{ap, ◌∙◌}
-use borrow.Author.Tests.{not-true, not-false}
 use Rattle.rules.proofs.Laws.{so}
 use Rattle.rules.specs.Refusals.{◌>>◌, refuse◌when◌}
 use Rattle.entries.specs.declared.entry.Entry.{Entry}
 use Rattle.entries.proofs.Limits.{sum_of-one}
 use Rattle.tree.specs.Limited.{limited, after_of, combined_of}
-use borrow.Author.Rules.{rules}
 use Rattle.tree.proofs.combine.after.Goals as goal
 
 pub returns-then-not-within : goal.returns-then-not-within

@@ -1,11 +1,10 @@
 -- The two checks are those of the definition.
 use mathlib.Core.Path.{ap, ◌∙◌}
-use borrow.Author.Tests.{not-true, not-false, lt-ltb, le-ltb}
+use borrow.Author.Tests.{lt-ltb, le-ltb}
 use Rattle.rules.proofs.Laws.{so}
 use Rattle.rules.specs.Refusals.{◌>>◌, refuse◌when◌}
 use Rattle.entries.specs.Entry.{in_limits}
 use Rattle.tree.specs.Limited.{limited}
-use borrow.Author.Rules.{rules}
 use Rattle.tree.proofs.combine.limit.Goals as goal
 
 pub returns-then-not-within : goal.returns-then-not-within

@@ -1,13 +1,11 @@
 -- The entry as read is checked, and joined.
 use mathlib.Core.Path.{ap, ◌∙◌}
-use borrow.Author.Tests.{not-true, not-false}
 use Rattle.rules.proofs.Laws.{so}
 use Rattle.rules.specs.Refusals.{◌>>◌, refuse◌when◌}
 use Rattle.entries.specs.Entry.{joined, in_limits}
 use Rattle.entries.specs.declared.entry.Entry.{Entry}
 use Rattle.tree.specs.Limited.{sum_of}
 use Rattle.tree.specs.declared.combine.Combined.TheVariants as combined
-use borrow.Author.Rules.{rules}
 use Rattle.tree.proofs.first.add.Goals as goal
 
 pub returns-then-not-within : goal.returns-then-not-within

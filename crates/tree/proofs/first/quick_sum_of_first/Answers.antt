@@ -1,6 +1,5 @@
 use Prim.Native.Nat.{◌+◌, ◌-◌}
 use native.Mathlib.Omega.{arith}
-use borrow.Author.Rules.{rules}
 use Rattle.rules.proofs.Laws.{so}
 use Rattle.tree.proofs.Jumps.{Summing, summing_start, summing_next, summed, sums_fit, inside}
 use Rattle.tree.proofs.first.quick_sum_of_first.Goals as goal

@@ -1,9 +1,5 @@
 -- The sum is that of the walk's steps, and one within its limits was within them at each step.
-use Prim.Native.Nat.{◌+◌, ◌-◌}
-use native.Mathlib.Omega.{arith}
-use borrow.Author.Rules.{rules}
-use Rattle.rules.proofs.Laws.{so}
-use Rattle.tree.proofs.Jumps.{Summing, summing_start, summing_next, summed, sums_fit, inside}
+use Rattle.tree.proofs.Jumps.{Summing}
 use Rattle.tree.proofs.first.quick_sum_of_first.Given as goal
 
 abbrev pub invariant-loop-rest : goal.invariant-loop-rest

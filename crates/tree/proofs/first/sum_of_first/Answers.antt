@@ -1,7 +1,6 @@
 use native.Mathlib.Omega.{arith}
-use borrow.Author.Rules.{rules}
 use Rattle.rules.proofs.Laws.{so}
-use Rattle.tree.proofs.Firsts.{Walking, walking_start, x_small, x_inside, after_next, after_end, at_last}
+use Rattle.tree.proofs.Firsts.{walking_start, x_small, x_inside, after_next, after_end, at_last}
 use Rattle.tree.proofs.first.sum_of_first.Goals as goal
 
 pub overflow_add-t : goal.overflow_add-t

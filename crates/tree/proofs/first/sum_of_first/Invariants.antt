@@ -1,8 +1,5 @@
 -- The loop keeps the definition: what is left to combine, from where it stands, gives the whole.
-use native.Mathlib.Omega.{arith}
-use borrow.Author.Rules.{rules}
-use Rattle.rules.proofs.Laws.{so}
-use Rattle.tree.proofs.Firsts.{Walking, walking_start, x_small, x_inside, after_next, after_end, at_last}
+use Rattle.tree.proofs.Firsts.{Walking}
 use Rattle.tree.proofs.first.sum_of_first.Given as goal
 
 abbrev pub invariant-loop-t : goal.invariant-loop-t

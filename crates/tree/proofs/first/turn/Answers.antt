@@ -6,7 +6,6 @@ use Rattle.entries.specs.declared.entry.Entry.{Entry}
 use Rattle.tree.specs.Limited.{after_of, combined_of}
 use Rattle.entries.specs.Words.{entry_at}
 use Rattle.tree.proofs.Climbs.{told_good, told_refused}
-use borrow.Author.Rules.{rules}
 use Rattle.tree.proofs.first.turn.Goals as goal
 
 pub returns-then-t : goal.returns-then-t

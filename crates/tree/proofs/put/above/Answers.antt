@@ -1,13 +1,12 @@
 -- The entry as read is checked, then the combination, the left half first.
 use mathlib.Core.Path.{ap, ◌∙◌}
-use borrow.Author.Tests.{not-true, not-false, eq-eqb, ne_eqb}
+use borrow.Author.Tests.{eq-eqb, ne_eqb}
 use Rattle.rules.proofs.Laws.{so}
 use Rattle.rules.specs.Refusals.{◌>>◌, refuse◌when◌}
 use Rattle.entries.specs.declared.entry.Entry.{Entry}
 use Rattle.entries.proofs.Limits.{sum_of-one}
 use Rattle.tree.specs.Limited.{limited, combined_of}
 use Rattle.tree.specs.Put.{above_of}
-use borrow.Author.Rules.{rules}
 use Rattle.tree.proofs.put.above.Goals as goal
 
 pub returns-then-not-within : goal.returns-then-not-within

@@ -2,8 +2,6 @@ use Prim.Native.Nat.{ℕ, ◌^◌, ◌/◌, ◌≤◌}
 use mathlib.Core.Path.{◌≡◌, sym, ap, subst, ◌∙◌}
 use mathlib.Core.Bool.{true, false≢true}
 use native.Mathlib.Omega.{arith}
-use borrow.Author.Rules.{rules}
-use borrow.Author.Tests.{not-false}
 use Rattle.numbers.proofs.rounding.Closest.{one_shl}
 use Rattle.rules.proofs.Laws.{so}
 use Rattle.entries.specs.Entry.{in_limits}

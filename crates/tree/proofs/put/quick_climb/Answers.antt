@@ -3,7 +3,6 @@ use mathlib.Core.Path.{ap, sym, ◌∙◌}
 use Rattle.rules.specs.Refusals.{good}
 use Rattle.tree.proofs.Climbs.{is_good_lem}
 use Rattle.tree.proofs.Rises.{clear_climbs}
-use borrow.Author.Rules.{rules}
 use Rattle.tree.proofs.put.quick_climb.Goals as goal
 
 pub write_up-requires : goal.write_up-requires

@@ -1,8 +1,7 @@
 use mathlib.Core.Path.{◌∙◌}
 use native.Mathlib.Omega.{arith}
-use borrow.Author.Rules.{rules}
 use Rattle.entries.proofs.Limits.{sum_of-one}
-use Rattle.tree.proofs.Rises.{Writing, writing_start, writing_next, writing_end, halves}
+use Rattle.tree.proofs.Rises.{writing_start, writing_next, writing_end, halves}
 use Rattle.tree.proofs.put.write_up.Goals as goal
 
 pub loop-left-init : goal.loop-left-init

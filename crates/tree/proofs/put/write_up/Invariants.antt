@@ -1,9 +1,5 @@
 -- Writing what is left of the way, from the words as they stand, gives what writing all of it at first did.
-use mathlib.Core.Path.{◌∙◌}
-use native.Mathlib.Omega.{arith}
-use borrow.Author.Rules.{rules}
-use Rattle.entries.proofs.Limits.{sum_of-one}
-use Rattle.tree.proofs.Rises.{Writing, writing_start, writing_next, writing_end, halves}
+use Rattle.tree.proofs.Rises.{Writing}
 use Rattle.tree.proofs.put.write_up.Given as goal
 
 abbrev pub invariant-loop-left : goal.invariant-loop-left

@@ -3,7 +3,6 @@ use Prim.Native.Nat.{ℕ, suc, ◌+◌, ◌-◌, ◌*◌, ◌%◌, ◌^◌, ◌�
 use mathlib.Core.Path.{◌≡◌, refl}
 use native.Mathlib.Omega.{arith}
 use native.Mathlib.Nat.{pow-suc}
-use borrow.Author.Rules.{rules}
 use lib.Count.{count_leading_zeros, leading_top}
 use Rattle.numbers.proofs.rounding.Closest.{one_shl}
 use Rattle.tree.proofs.size.largest_width.Goals as goal

@@ -1,11 +1,10 @@
 -- Half of C is the largest power of two below the count, where the count is above 1.
-use Prim.Native.Nat.{ℕ, suc, ◌+◌, ◌-◌, ◌*◌, ◌^◌, ◌≤◌, ◌<◌}
+use Prim.Native.Nat.{ℕ, ◌+◌, ◌-◌, ◌*◌, ◌^◌, ◌≤◌, ◌<◌}
 use mathlib.Core.Path.{◌≡◌, sym, ap, ◌∙◌, subst}
 use native.Mathlib.Omega.{arith}
-use native.Mathlib.Nat.{pow-suc, le_of_suc-le-suc}
+use native.Mathlib.Nat.{pow-suc}
 use native.Mathlib.Numerals.{add-one}
 use lib.Pow.{pow_mono}
-use borrow.Author.Rules.{rules}
 use Rattle.rules.specs.Limits.{max_levels, max_objects}
 use Rattle.tree.specs.Size.{levels_of, cap_of}
 use Rattle.tree.proofs.Levels.{below_13, levels_are}

@@ -3,7 +3,6 @@ use native.Mathlib.Omega.{arith}
 use lib.Dec.{lit<}
 use Rattle.entries.specs.Entry.{joined}
 use Rattle.entries.proofs.Limits.{sum_fits, product_fits, combos_fit}
-use borrow.Author.Rules.{rules}
 use Rattle.entries.proofs.entry.Entry.join.Goals as goal
 
 pub overflow_add-result : goal.overflow_add-result

@@ -5,7 +5,6 @@ use native.Mathlib.Omega.{arith}
 use lib.Dec.{lit<}
 use Rattle.entries.proofs.Limits.{sum_fits, chosen_product, chosen_combos}
 use Rattle.entries.proofs.Runs.{joined_at}
-use borrow.Author.Rules.{rules}
 use Rattle.entries.proofs.entry.Entry.join_at.Goals as goal
 
 pub overflow_add-result : goal.overflow_add-result

@@ -14,7 +14,6 @@ use Rattle.simulator.specs.declared.legacy_score.NestedScorePerObject.{NestedSco
 use Rattle.simulator.proofs.Bounds.{fresh-within, within_more, none-counted, counted_more}
 use Rattle.entries.specs.Entry.{own_entry}
 use Rattle.entries.proofs.Own.{own_with, own_from}
-use borrow.Author.Rules.{rules}
 use Rattle.entries.proofs.entry.Entry.own.Goals as goal
 
 new_within : (st : State) → st ≡ fresh → Within (max_objects - 1) st

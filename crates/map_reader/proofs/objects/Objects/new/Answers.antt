@@ -1,6 +1,5 @@
 -- Each part is fresh.
 use lib.Ieee.{of_bits, of_int}
-use borrow.Author.Rules.{rules}
 use Rattle.map_reader.proofs.objects.Objects.new.Goals as goal
 
 pub returns : goal.returns

@@ -7,7 +7,6 @@ use Rattle.records.specs.Records.{CI, SL, SP}
 use Rattle.map_file.proofs.Steps.{rest_is}
 use Rattle.map_reader.proofs.Running.{next_short, next_by, next_none, circle-at, slider-at, spinner-at}
 use Rattle.map_reader.proofs.Stepping.{circle_either, slider_either}
-use borrow.Author.Rules.{rules}
 use Rattle.map_reader.proofs.objects.Objects.with_next.Goals as goal
 
 pub returns-then-s-at : goal.returns-then-s-at

@@ -1,13 +1,10 @@
 -- What was read is the object that the definition finds, and the state goes its step.
 use mathlib.Core.Bool.{true}
-use mathlib.Core.List.{[], ◌∷◌}
 use mathlib.Core.Path.{◌∙◌}
 use native.Mathlib.Omega.{arith}
-use types.Run.{miss}
 use Rattle.records.specs.Records.{SL, object_of, slider_of}
 use Rattle.rules.proofs.Laws.{so}
 use Rattle.map_reader.proofs.Stepping.{stops, slider_read, read_within, read_few, kind_is, next_is, slider_of_lem, slider_free}
-use borrow.Author.Rules.{rules}
 use Rattle.map_reader.proofs.objects.Objects.with_slider.Goals as goal
 
 pub returns-in_default : goal.returns-in_default

@@ -1,12 +1,9 @@
 -- What was read is the object that the definition finds, and the state goes its step.
-use mathlib.Core.List.{[], ◌∷◌}
 use mathlib.Core.Path.{◌∙◌}
 use native.Mathlib.Omega.{arith}
-use types.Run.{miss}
 use Rattle.records.specs.Records.{SP, object_of, spinner_of}
 use Rattle.rules.proofs.Laws.{so}
 use Rattle.map_reader.proofs.Stepping.{stops, spinner_read, read_within, read_few, kind_is, next_is, spinner_of_lem, over_is, next_bonus}
-use borrow.Author.Rules.{rules}
 use Rattle.map_reader.proofs.objects.Objects.with_spinner.Goals as goal
 
 pub returns-in_default : goal.returns-in_default

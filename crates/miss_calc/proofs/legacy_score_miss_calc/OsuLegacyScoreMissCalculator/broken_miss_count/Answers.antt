@@ -1,7 +1,6 @@
 -- The branches are those of the definition, operation by operation.
 use Rattle.miss_calc.specs.ScoreBased.{broken_miss_count_of}
 use lib.Ieee.{of_bits, of_int, round}
-use borrow.Author.Rules.{rules}
 use Rattle.miss_calc.proofs.legacy_score_miss_calc.OsuLegacyScoreMissCalculator.broken_miss_count.Goals as goal
 
 pub returns-then-combo-threshold : goal.returns-then-combo-threshold

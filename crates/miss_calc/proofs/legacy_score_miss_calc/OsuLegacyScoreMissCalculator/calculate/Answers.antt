@@ -2,7 +2,6 @@
 use Rattle.miss_calc.specs.ScoreBased.{score_based_of}
 use borrow.Author.Tests.{eq-eqb, ne_eqb}
 use lib.Ieee.{of_bits, of_int, round}
-use borrow.Author.Rules.{rules}
 use Rattle.miss_calc.proofs.legacy_score_miss_calc.OsuLegacyScoreMissCalculator.calculate.Goals as goal
 
 pub returns-in_default : goal.returns-in_default

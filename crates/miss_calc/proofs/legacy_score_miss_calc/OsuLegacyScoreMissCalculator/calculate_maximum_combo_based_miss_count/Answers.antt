@@ -1,7 +1,6 @@
 -- The branches are those of the definition, operation by operation.
 use Rattle.miss_calc.specs.ScoreBased.{maximum_miss_count_of}
 use borrow.Author.Tests.{eq-eqb, ne_eqb}
-use borrow.Author.Rules.{rules}
 use Rattle.miss_calc.proofs.legacy_score_miss_calc.OsuLegacyScoreMissCalculator.calculate_maximum_combo_based_miss_count.Goals as goal
 
 pub returns-then-self-eq0 : goal.returns-then-self-eq0

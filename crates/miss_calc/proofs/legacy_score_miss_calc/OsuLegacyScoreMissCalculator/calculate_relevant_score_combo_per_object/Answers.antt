@@ -1,7 +1,6 @@
 -- The formula is the definition's, operation by operation.
 use Rattle.miss_calc.specs.ScoreBased.{combo_per_object_of}
 use lib.Ieee.{of_bits, of_int, round}
-use borrow.Author.Rules.{rules}
 use Rattle.miss_calc.proofs.legacy_score_miss_calc.OsuLegacyScoreMissCalculator.calculate_relevant_score_combo_per_object.Goals as goal
 
 pub returns : goal.returns

@@ -1,7 +1,6 @@
 -- The formula is the definition's, operation by operation.
 use Rattle.miss_calc.specs.ScoreBased.{score_at_combo_of}
 use lib.Ieee.{of_bits, of_int, round}
-use borrow.Author.Rules.{rules}
 use Rattle.miss_calc.proofs.legacy_score_miss_calc.OsuLegacyScoreMissCalculator.calculate_score_at_combo.Goals as goal
 
 pub returns : goal.returns

@@ -1,5 +1,4 @@
 -- Each arm is a line of the table.
-use Rattle.std.proofs.Common.{rules}
 use Rattle.ruleset.proofs.hit_result.HitResult.base_score.Goals as goal
 
 pub returns-in-SmallTickHit : goal.returns-in-SmallTickHit

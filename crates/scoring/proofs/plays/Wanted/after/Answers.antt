@@ -1,7 +1,6 @@
 -- The case of the wanted play decides, as in the definition.
 use Rattle.scoring.specs.View.{wanted_after}
 use borrow.Author.Tests.{eq-eqb, ne_eqb}
-use borrow.Author.Rules.{rules}
 use Rattle.scoring.proofs.plays.Wanted.after.Goals as goal
 
 pub returns-then-ahead-eq0 : goal.returns-then-ahead-eq0

@@ -2,7 +2,6 @@
 use mathlib.Core.Path.{◌≡◌, sym, ap, ◌∙◌}
 use native.Mathlib.Omega.{arith}
 use borrow.Author.Tests.{eq-eqb, ne_eqb}
-use borrow.Author.Rules.{rules}
 use Rattle.rules.proofs.Laws.{so, never}
 use Rattle.play_score.specs.declared.Scored.TheVariants as scored
 use Rattle.scoring.specs.View.{wanted_after}

@@ -1,7 +1,6 @@
 -- The formula is the definition.
 use lib.Ieee.{of_bits, of_int}
 use Rattle.simulator.specs.Nested.{nested_score_of}
-use borrow.Author.Rules.{rules}
 use Rattle.simulator.proofs.legacy_score.NestedScorePerObject.calculate.Goals as goal
 
 pub returns : goal.returns

@@ -8,7 +8,6 @@ use Rattle.simulator.specs.Limits.{nested_count}
 use Rattle.simulator.specs.Nested.{counted}
 use Rattle.simulator.proofs.Objects.{repeats_kept, ticks_kept}
 use Rattle.simulator.proofs.Bonus.{legacy_most, nested_legacy}
-use borrow.Author.Rules.{rules}
 use Rattle.simulator.proofs.legacy_score.NestedScorePerObject.process_next.Goals as goal
 
 pub overflow_add-result-in-Slider-2 : goal.overflow_add-result-in-Slider-2

@@ -2,7 +2,6 @@
 use borrow.Author.Tests.{eq-eqb, ne_eqb}
 use lib.Ieee.{of_bits, of_int}
 use Rattle.simulator.specs.Attributes.{bonus_ratio_of}
-use borrow.Author.Rules.{rules}
 use Rattle.simulator.proofs.legacy_score_simulator.OsuLegacyScoreSimulator.bonus_score_ratio.Goals as goal
 
 pub returns-then-self-eq0 : goal.returns-then-self-eq0

@@ -3,7 +3,6 @@ use mathlib.Core.Path.{refl, sym, ◌∙◌}
 use native.Mathlib.Omega.{arith}
 use Rattle.simulator.proofs.States.{state_same}
 use Rattle.simulator.proofs.Objects.{walk-circle}
-use borrow.Author.Rules.{rules}
 use Rattle.simulator.proofs.legacy_score_simulator.OsuLegacyScoreSimulator.circle.Goals as goal
 
 pub returns : goal.returns

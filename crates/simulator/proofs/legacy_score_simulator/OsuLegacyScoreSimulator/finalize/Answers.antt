@@ -1,7 +1,6 @@
 -- Each field is that of the state, and the product fits.
 use Rattle.simulator.specs.Attributes.{bonus_ratio_of, legacy_attributes_of}
 use Rattle.simulator.proofs.Bounds.{product_fits}
-use borrow.Author.Rules.{rules}
 use Rattle.simulator.proofs.legacy_score_simulator.OsuLegacyScoreSimulator.finalize.Goals as goal
 
 pub overflow_mul-result : goal.overflow_mul-result

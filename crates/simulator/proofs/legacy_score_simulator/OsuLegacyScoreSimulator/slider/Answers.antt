@@ -5,7 +5,6 @@ use native.Mathlib.Omega.{arith}
 use Rattle.simulator.proofs.States.{state_same}
 use Rattle.simulator.proofs.Objects.{walk-slider, repeats_kept, ticks_kept}
 use Rattle.simulator.specs.View.{items_of}
-use borrow.Author.Rules.{rules}
 use Rattle.simulator.proofs.legacy_score_simulator.OsuLegacyScoreSimulator.slider.Goals as goal
 use Rattle.simulator.proofs.legacy_score_simulator.OsuLegacyScoreSimulator.slider.Goals.{After-base_score, After-base_score-2}
 

@@ -4,7 +4,6 @@ use native.Mathlib.Omega.{arith}
 use Rattle.simulator.proofs.States.{state_same}
 use Rattle.simulator.proofs.Objects.{walk-spinner}
 use Rattle.simulator.proofs.Bonus.{legacy_most, standardised_most}
-use borrow.Author.Rules.{rules}
 use Rattle.simulator.proofs.legacy_score_simulator.OsuLegacyScoreSimulator.spinner.Goals as goal
 
 pub overflow_add-legacy_bonus_score : goal.overflow_add-legacy_bonus_score

@@ -1,26 +1,37 @@
-// What the program that replays stored answers does with a lent space: its front read from standard input, and two texts held against each other.
+// What the program that replays stored answers does with a lent space: its front read from a reader, and two texts held against each other.
 #![tactic(auto)]
-use libc::STDIN_FILENO;
 
-// Reads the next bytes of the input to the front of the space, and says whether all are there.
-pub fn read_front(space: &mut [u8], length: usize) -> bool {
-    if space.len() < length {
-        return false;
+ghost use Rattle.std.specs.Prelude.{◌≡◌, ◌<◌, ◌≤◌, ◌↔◌, IfOk, IsTrue, Ok, false, length, take};
+ghost use Rattle.std.specs.Io.{StartsWith};
+ghost use Rattle.std.specs.Io.KnownBytes.{Consumes};
+
+use std::io;
+use std::io::{ErrorKind, Read};
+
+// Reads the next bytes to the front of the space, and says whether all are there. Where the reader ends early or fails, some of them may be read.
+pub fn read_front<R: Read>(reader: &mut R, space: &mut [u8], count: usize) -> io::Result<bool>
+    ensures all { IfOk result (λ all. IsTrue all →
+        Consumes (R.remaining reader.old) (R.remaining reader.new) (take count space.new)) }
+    ensures within { IfOk result (λ all. IsTrue all → count ≤ length space.old) }
+
+    // A space that is too short is left alone, and so is the reader.
+    ensures short { length space.old < count → result ≡ Ok false }
+    ensures short_space { length space.old < count → space.new ≡ space.old }
+    ensures short_reader { length space.old < count → reader.new ≡ reader.old }
+{
+    if space.len() < count {
+        return Ok(false);
     }
-    io::read_full(STDIN_FILENO, &mut space[..length]) == length
+    match reader.read_exact(&mut space[..count]) {
+        Ok(()) => Ok(true),
+        Err(e) if e.kind() == ErrorKind::UnexpectedEof => Ok(false),
+        Err(e) => Err(e),
+    }
 }
 
 // Whether the text starts with these bytes.
-pub fn starts_with(text: &[u8], front: &[u8]) -> bool {
-    if text.len() < front.len() {
-        return false;
-    }
-    let mut i = 0;
-    while i < front.len() {
-        if text[i] != front[i] {
-            return false;
-        }
-        i += 1;
-    }
-    true
+pub fn starts_with(text: &[u8], front: &[u8]) -> bool
+    ensures { IsTrue result ↔ StartsWith text.now front.now }
+{
+    text.starts_with(front)
 }

@@ -1,17 +1,15 @@
--- How far a loop of reads is in a space of n bytes. Definitions only.
-use Rattle.std.specs.Prelude.{ℕ, ◌≤◌}
+-- How far a read is in a space of n bytes, and what it moved there. Definitions only.
+use Rattle.std.specs.Prelude.{ℕ, ◌-◌, ◌<◌, ◌≤◌, List, length, take, drop, Option}
+use Rattle.std.specs.Io.KnownBytes.{Consumes, IsAtEnd, Keeps}
 use Rattle.list.specs.declared.Moved.{Moved}
 use Rattle.list.specs.declared.Moved.TheVariants as moved
-use Rattle.list.specs.declared.Input.{Input}
-use Rattle.list.specs.declared.Input.TheVariants as input
 
 -- a place behind moved bytes lies in the space
 abbrev pub MovedWithin : ℕ → Moved → Type 0
 MovedWithin n (moved.To place) = place ≤ n
 MovedWithin n moved.End = Unit
-MovedWithin n moved.Failed = Unit
 
--- the input lies in the space
-abbrev pub InputWithin : ℕ → Input → Type 0
-InputWithin n (input.Bytes count) = count ≤ n
-InputWithin n input.Failed = Unit
+-- the bytes from one place to the next come from the reader's; at the end none came, and none are left if the space has room
+abbrev pub MovesBytes : ℕ → List ℕ → Option (List ℕ) → Option (List ℕ) → Moved → Type 0
+MovesBytes at space old new (moved.To place) = (at ≤ place) × Consumes old new (take (place - at) (drop at space))
+MovesBytes at space old new moved.End = Keeps old new × (at < length space → IsAtEnd new)

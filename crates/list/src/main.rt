@@ -1,143 +1,94 @@
-// The listing program of document 01: a map file on standard input, its listing on standard output. A program cannot choose its exit status: where
-// input or output fails, it says so on standard error and lists nothing, or nothing more.
+// The listing program: a map file on standard input, its listing on standard output. Where input or output fails, it says so on standard error, ends
+// with status 1, and lists nothing, or nothing more.
 #![tactic(auto)]
-ghost use Rattle.std.specs.Prelude.{length};
-ghost use Rattle.list.specs.Places.{MovedWithin, InputWithin};
 
-use libc::{STDIN_FILENO, STDOUT_FILENO};
+ghost use Rattle.std.specs.Prelude.{◌≡◌, ◌≢◌, ◌<◌, ◌≤◌, length, take, IfErr, IfOk, IfSome, OnErr, OnOk};
+ghost use Rattle.std.specs.IoError.{error_kind};
+ghost use Rattle.std.specs.Io.KnownBytes.{Appends, Consumes, IsAtEnd, Keeps};
+ghost use Rattle.listing.specs.Listing.{input_text};
+ghost use Rattle.list.specs.Places.{MovedWithin, MovesBytes};
+
+use anyhow::{Context, Result};
 use listing::{Listed, MAX_INPUT, list_input};
+use std::alloc::{AllocError, Global};
+use std::io;
+use std::io::{ErrorKind, Read, Write};
 
-// One byte more than document 01 takes, so that a longer input is told and no further byte is read.
+// One byte more than the program takes, so that a longer input is told and no further byte is read.
 const INPUT: usize = MAX_INPUT + 1;
 
 // More than any listing has: 65,536 bytes hold at most 1,489 plays, whose lines have at most 94 bytes, as the map's has at most 164.
 const LISTING: usize = 262144;
 
-// What a call that moves bytes did: the place behind them, which is the old place where a signal came first; nothing is left; or an error.
-#[derive(Clone, Copy)]
+// What a read did: it moved bytes, up to a place, which is the old place where a signal came first; or nothing is left, of the input or of the room.
+#[derive(Drop)]
 enum Moved {
     To(usize),
     End,
-    Failed,
-}
-
-// How much of the space is input.
-#[derive(Clone, Copy)]
-enum Input {
-    Bytes(usize),
-    Failed,
-}
-
-// Whether a signal came before the failed call moved a byte: the call is tried again.
-fn was_interrupted() -> bool {
-    os::errno() == libc::EINTR
 }
 
 // One read behind the place.
-fn read_some(space: &mut [u8], at: usize) -> Moved
-    ensures { MovedWithin (length space.old) result }
+fn read_some<R: Read>(reader: &mut R, space: &mut [u8], at: usize) -> io::Result<Moved>
+    ensures within { IfOk result (MovedWithin (length space.old)) }
+    ensures front { take at space.new ≡ take at space.old }
+    ensures bytes { IfOk result (MovesBytes at space.new (R.remaining reader.old) (R.remaining reader.new)) }
+    ensures err { OnErr result (Keeps (R.remaining reader.old) (R.remaining reader.new)) }
+    ensures retried { IfErr result (λ e. error_kind e ≢ ErrorKind.Interrupted) }
 {
     if space.len() <= at {
-        return Moved::End;
+        return Ok(Moved::End);
     }
-    let got = libc::read(STDIN_FILENO, &mut space[at..]);
-    if got < 0 {
-        if was_interrupted() {
-            return Moved::To(at);
-        }
-        return Moved::Failed;
+    match reader.read(&mut space[at..]) {
+        Ok(0) => Ok(Moved::End),
+        Ok(count) => Ok(Moved::To(at + count)),
+        Err(e) if e.kind() == ErrorKind::Interrupted => Ok(Moved::To(at)),
+        Err(e) => Err(e),
     }
-    if got == 0 {
-        return Moved::End;
-    }
-    Moved::To(at + io::count(got, &space[at..]))
 }
 
-// Reads until the input ends or the space is full. A proved loop has to end, and nothing says that an input does: it counts its turns down from a
-// number that no run uses up.
-fn read_input(space: &mut [u8]) -> Input
-    ensures { InputWithin (length space.old) result }
+// Reads until the input ends or the space is full, and returns how many bytes it put at the front of the space.
+fn read_input<R: Read>(reader: &mut R, space: &mut [u8]) -> io::Result<usize>
+    ensures within { IfOk result (λ count. count ≤ length space.old) }
+    ensures bytes { IfOk result (λ count.
+        Consumes (R.remaining reader.old) (R.remaining reader.new) (take count space.new)) }
+    ensures end { IfOk result (λ count. count < length space.old → IsAtEnd (R.remaining reader.new)) }
+    ensures retried { IfErr result (λ e. error_kind e ≢ ErrorKind.Interrupted) }
 {
     let mut at = 0;
-    let mut turns = u64::MAX;
-    while turns > 0 {
-        match read_some(space, at) {
-            Moved::To(behind) => {
-                at = behind;
-            }
-            Moved::End => {
-                return Input::Bytes(at);
-            }
-            Moved::Failed => {
-                return Input::Failed;
-            }
+    for _ in 0..u64::MAX {
+        match read_some(reader, space, at)? {
+            Moved::To(place) => at = place,
+            Moved::End => return Ok(at),
         }
-        turns -= 1;
     }
-    Input::Failed
+    Err(io::Error::from(ErrorKind::TimedOut))
 }
 
-// One write from the place on.
-fn write_some(text: &[u8], at: usize) -> Moved {
-    if text.len() <= at {
-        return Moved::End;
-    }
-    let put = libc::write(STDOUT_FILENO, &text[at..]);
-    if put < 0 {
-        if was_interrupted() {
-            return Moved::To(at);
-        }
-        return Moved::Failed;
-    }
-    if put == 0 {
-        return Moved::Failed;
-    }
-    Moved::To(at + io::count(put, &text[at..]))
-}
-
-// Writes the whole text, and says whether it is written.
-fn write_text(text: &[u8]) -> bool {
-    let mut at = 0;
-    let mut turns = u64::MAX;
-    while turns > 0 {
-        match write_some(text, at) {
-            Moved::To(behind) => {
-                at = behind;
-            }
-            Moved::End => {
-                return true;
-            }
-            Moved::Failed => {
-                return false;
-            }
-        }
-        turns -= 1;
-    }
-    false
-}
-
-// A place that no run comes to.
-fn never()
-    requires { ⊥ }
-{}
-
-fn list(input: &[u8]) {
-    let mut space = [0u8; LISTING];
-    match list_input(input, &mut space) {
-        Listed::Text(count) => {
-            if !write_text(&space[..count]) {
-                os::fail(b"standard output");
-            }
-        }
+// The listing of the input.
+fn listing_of(alloc: Global, input: &[u8]) -> Result<Vec<u8>, AllocError>
+    ensures { IfOk result (λ text. text.items ≡ input_text input.now) }
+{
+    let mut text = vec![in alloc; 0u8; LISTING]?;
+    match list_input(input, &mut text) {
+        Listed::Text(count) => text.truncate(count),
         // The space is longer than any listing: `listing_told` of listing/proofs/Fits.
-        Listed::NoRoom => never(),
+        Listed::NoRoom => unreachable!(),
     }
+    Ok(text)
 }
 
-fn main() {
-    let mut space = [0u8; INPUT];
-    match read_input(&mut space) {
-        Input::Bytes(count) => list(&space[..count]),
-        Input::Failed => os::fail(b"standard input"),
-    }
+// Reads the input, and writes its listing.
+fn list<R: Read, W: Write>(alloc: Global, reader: &mut R, writer: &mut W) -> Result<()>
+    ensures { OnOk result (IfSome (R.remaining reader.old) (λ bytes.
+        Appends (W.contents writer.old) (W.contents writer.new) (input_text bytes))) }
+{
+    let mut space = vec![in alloc; 0u8; INPUT]?;
+    let count = read_input(reader, &mut space).context("standard input")?;
+    let text = listing_of(alloc, &space[..count])?;
+    writer.write_all(&text).context("standard output")?;
+    Ok(())
+}
+
+fn main(rt: HostRuntime) -> Result<()> {
+    list(rt.alloc(), &mut rt.stdin(), &mut rt.stdout())
 }

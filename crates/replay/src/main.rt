@@ -1,26 +1,27 @@
 // Replays stored answers on the listing. A row of the input is its kind (0 the program's input and 1 a file, both of the table of refusals; 2 an
 // accepted file with the Rust's listing), the text that is due and the file, each behind its length, a u32.
 #![tactic(auto)]
-use libc::{STDIN_FILENO, STDOUT_FILENO};
+
+ghost use Rattle.std.specs.Prelude.{◌≡◌, ◌↔◌, IfOk, IsTrue};
+
+use frames::{read_front, starts_with};
 use listing::{Listed, list_file, list_input};
-use numbers::words::word_at;
+use std::alloc::{AllocError, Global};
+use std::io::{Read, Write};
+use std::{fmt, io};
 
 // Longer than any text or file of the rows.
 const SPACE: usize = 262144;
 
+// What a row replays.
 #[derive(Clone, Copy)]
 enum Kind {
-    Is(u64),
-    End,
+    RefusedInput,
+    RefusedFile,
+    Listing,
 }
 
-#[derive(Clone, Copy)]
-enum Length {
-    Is(usize),
-    Cut,
-}
-
-#[derive(Clone, Copy)]
+#[derive(Clone, Copy, PartialEq, Eq)]
 enum Outcome {
     Agree,
     Differ,
@@ -28,174 +29,175 @@ enum Outcome {
 }
 
 // How many rows of a sort there are, and how many of them agree.
-#[derive(Clone, Copy)]
+#[derive(Clone, Copy, Default)]
 struct Tally {
     agree: u64,
     rows: u64,
 }
 
-#[derive(Clone, Copy)]
+#[derive(Clone, Copy, Default)]
 struct Tallies {
     refusals: Tally,
     listings: Tally,
 }
 
-fn read_kind() -> Kind {
+// Where each row is read and listed, over the row before.
+#[derive(Drop)]
+struct Spaces {
+    due: Vec<u8>,
+    file: Vec<u8>,
+    text: Vec<u8>,
+}
+
+impl From<u8> for Kind {
+    fn from(byte: u8) -> Kind {
+        match byte {
+            0 => Kind::RefusedInput,
+            1 => Kind::RefusedFile,
+            _ => Kind::Listing,
+        }
+    }
+}
+
+// The kind of the next row, if there is one.
+fn read_kind<R: Read>(reader: &mut R) -> io::Result<Option<Kind>> {
     let mut kind = [0u8; 1];
-    if io::read_full(STDIN_FILENO, &mut kind) < 1 {
-        return Kind::End;
+    if read_front(reader, &mut kind, 1)? {
+        Ok(Some(Kind::from(kind[0])))
+    } else {
+        Ok(None)
     }
-    Kind::Is(word_at(&kind, 0, 1))
 }
 
-// Reads a length, then as many bytes to the front of the space.
-fn read_bytes(space: &mut [u8]) -> Length {
+// Reads a length, and then as many bytes to the front of the space. There are none where the row is cut.
+fn read_bytes<'a, R: Read>(reader: &mut R, space: &'a mut [u8]) -> io::Result<Option<&'a [u8]>> {
     let mut length = [0u8; 4];
-    if io::read_full(STDIN_FILENO, &mut length) < 4 {
-        return Length::Cut;
+    if !read_front(reader, &mut length, 4)? {
+        return Ok(None);
     }
-    let length = word_at(&length, 0, 4) as usize;
-    if frames::read_front(space, length) {
-        Length::Is(length)
+    let length = u32::from_le_bytes(length) as usize;
+    if read_front(reader, space, length)? {
+        Ok(Some(&space[..length]))
     } else {
-        Length::Cut
+        Ok(None)
     }
 }
 
-fn is_due(text: &[u8], due: &[u8]) -> bool {
-    if text.len() != due.len() {
-        return false;
-    }
-    frames::starts_with(text, due)
+fn is_due(text: &[u8], due: &[u8]) -> bool
+    ensures { IsTrue result ↔ (text.now ≡ due.now) }
+{
+    text.len() == due.len() && starts_with(text, due)
 }
 
-fn compare(text: &[u8], due: &[u8]) -> Outcome {
+// Holds a text against the one that is due, and prints both where they differ.
+fn compare<W: Write>(writer: &mut W, text: &[u8], due: &[u8]) -> io::Result<Outcome>
+    ensures { IfOk result (λ outcome. (outcome ≡ Outcome.Agree) ↔ (text.now ≡ due.now)) }
+{
     if is_due(text, due) {
-        return Outcome::Agree;
+        return Ok(Outcome::Agree);
     }
-    io::write_all(STDOUT_FILENO, b"due:\n");
-    io::write_all(STDOUT_FILENO, due);
-    io::write_all(STDOUT_FILENO, b"\nfound:\n");
-    io::write_all(STDOUT_FILENO, text);
-    Outcome::Differ
+    writer.write_all(b"due:\n")?;
+    writer.write_all(due)?;
+    writer.write_all(b"\nfound:\n")?;
+    writer.write_all(text)?;
+    Ok(Outcome::Differ)
 }
 
-fn compare_front(space: &[u8], count: usize, due: &[u8]) -> Outcome {
-    if space.len() < count {
-        return Outcome::Cut;
-    }
-    compare(&space[..count], due)
-}
-
-fn list(kind: u64, file: &[u8], space: &mut [u8]) -> Listed {
-    if kind == 0 {
-        list_input(file, space)
-    } else {
-        list_file(file, space)
-    }
-}
-
-fn replay_file(kind: u64, file: &[u8], due: &[u8], space: &mut [u8]) -> Outcome {
-    match list(kind, file, space) {
-        Listed::Text(count) => compare_front(space, count, due),
-        Listed::NoRoom => Outcome::Cut,
+fn list(kind: Kind, file: &[u8], space: &mut [u8]) -> Listed {
+    match kind {
+        Kind::RefusedInput => list_input(file, space),
+        Kind::RefusedFile | Kind::Listing => list_file(file, space),
     }
 }
 
 // Reads one row behind its kind and replays it.
-fn replay_row(kind: u64, dues: &mut [u8], files: &mut [u8], space: &mut [u8]) -> Outcome {
-    let Length::Is(due) = read_bytes(dues) else {
-        return Outcome::Cut;
+fn replay_row<R: Read, W: Write>(
+    reader: &mut R,
+    writer: &mut W,
+    kind: Kind,
+    spaces: &mut Spaces,
+) -> io::Result<Outcome> {
+    let Some(due) = read_bytes(reader, &mut spaces.due)? else {
+        return Ok(Outcome::Cut);
     };
-    let Length::Is(file) = read_bytes(files) else {
-        return Outcome::Cut;
+    let Some(file) = read_bytes(reader, &mut spaces.file)? else {
+        return Ok(Outcome::Cut);
     };
-    if dues.len() < due {
-        return Outcome::Cut;
+    let Listed::Text(count) = list(kind, file, &mut spaces.text) else {
+        return Ok(Outcome::Cut);
+    };
+    match spaces.text.get(..count) {
+        Some(text) => compare(writer, text, due),
+        None => Ok(Outcome::Cut),
     }
-    if files.len() < file {
-        return Outcome::Cut;
+}
+
+impl Spaces {
+    fn new(alloc: Global) -> Result<Spaces, AllocError> {
+        Ok(Spaces {
+            due: vec![in alloc; 0u8; SPACE]?,
+            file: vec![in alloc; 0u8; SPACE]?,
+            text: vec![in alloc; 0u8; SPACE]?,
+        })
     }
-    replay_file(kind, &files[..file], &dues[..due], space)
 }
 
 impl Tally {
     // No input has so many rows that a count would wrap.
     fn with(self, outcome: Outcome) -> Tally {
-        let rows = std::num::wrapping_add_u64(self.rows, 1);
-        match outcome {
-            Outcome::Agree => Tally {
-                agree: std::num::wrapping_add_u64(self.agree, 1),
-                rows,
-            },
-            Outcome::Differ => Tally { rows, ..self },
-            Outcome::Cut => Tally { rows, ..self },
+        let agrees = outcome == Outcome::Agree;
+        Tally {
+            agree: self.agree.wrapping_add(u64::from(agrees)),
+            rows: self.rows.wrapping_add(1),
         }
     }
+}
 
-    fn print(self, what: &[u8]) {
-        io::print_decimal(STDOUT_FILENO, self.agree);
-        io::write_all(STDOUT_FILENO, b" of ");
-        io::print_decimal(STDOUT_FILENO, self.rows);
-        io::write_all(STDOUT_FILENO, what);
+impl fmt::Display for Tally {
+    fn fmt<W: fmt::Write>(&self, f: &mut fmt::Formatter<W>) -> fmt::Result {
+        let Tally { agree, rows } = *self;
+        write!(f, "{agree} of {rows}")
     }
 }
 
 impl Tallies {
-    fn with(self, kind: u64, outcome: Outcome) -> Tallies {
-        let refusals = self.refusals;
-        let listings = self.listings;
-        if kind < 2 {
-            Tallies {
+    fn with(self, kind: Kind, outcome: Outcome) -> Tallies {
+        let Tallies { refusals, listings } = self;
+        match kind {
+            Kind::RefusedInput | Kind::RefusedFile => Tallies {
                 refusals: refusals.with(outcome),
                 listings,
-            }
-        } else {
-            Tallies {
+            },
+            Kind::Listing => Tallies {
                 refusals,
                 listings: listings.with(outcome),
-            }
+            },
         }
     }
 }
 
-fn is_cut(outcome: Outcome) -> bool {
-    if let Outcome::Cut = outcome {
-        true
-    } else {
-        false
-    }
-}
-
-// A proved loop has to end, and nothing says that an input does: it counts its turns down from a number that no run uses up.
-fn replay_all(dues: &mut [u8], files: &mut [u8], space: &mut [u8]) -> Tallies {
-    let none = Tally { agree: 0, rows: 0 };
-    let mut tallies = Tallies {
-        refusals: none,
-        listings: none,
-    };
-    let mut turns = u64::MAX;
-    while turns > 0 {
-        let Kind::Is(kind) = read_kind() else {
-            return tallies;
+// Replays rows until the input ends, or a row is cut.
+fn replay_all<R: Read, W: Write>(
+    alloc: Global,
+    reader: &mut R,
+    writer: &mut W,
+) -> io::Result<Tallies> {
+    let mut spaces = Spaces::new(alloc)?;
+    let mut tallies = Tallies::default();
+    for _ in 0..u64::MAX {
+        let Some(kind) = read_kind(reader)? else {
+            break;
         };
-        let outcome = replay_row(kind, dues, files, space);
+        let outcome = replay_row(reader, writer, kind, &mut spaces)?;
         tallies = tallies.with(kind, outcome);
-        if is_cut(outcome) {
-            return tallies;
+        if outcome == Outcome::Cut {
+            break;
         }
-        turns -= 1;
     }
-    tallies
+    Ok(tallies)
 }
 
-fn main() {
-    let mut dues = [0u8; SPACE];
-    let mut files = [0u8; SPACE];
-    let mut space = [0u8; SPACE];
-    let tallies = replay_all(&mut dues, &mut files, &mut space);
-    let refusals = tallies.refusals;
-    let listings = tallies.listings;
-    refusals.print(b" rows of the table of refusals and ");
-    listings.print(b" listings agree\n");
+fn main(rt: HostRuntime) -> io::Result<()> {
+    let Tallies { refusals, listings } = replay_all(rt.alloc(), &mut rt.stdin(), &mut rt.stdout())?;
+    println!(rt; "{refusals} rows of the table of refusals and {listings} listings agree")
 }

@@ -1,0 +1,31 @@
+-- The program's space is longer than any listing, so that each stands whole at its front.
+use Rattle.std.proofs.Common.{◌≡◌, ℕ, ◌<◌, ◌≤◌, ◌⊎◌, List, length, take, ap, ◌∙◌, inl, inr, length-take-le, take_all, arith}
+use Rattle.std.proofs.lemmas.Bool.{cases_lt, lt-ltb}
+use Rattle.text.specs.Space.{put_at}
+use Rattle.text.proofs.Space.{take_put_front}
+use Rattle.listing.specs.Listing.{input_text, listed_of}
+use Rattle.listing.specs.declared.Listed.TheVariants as listed
+use Rattle.listing.proofs.Fits.{listing_short, listing_told}
+
+pub no_room : (input space : List ℕ) → length space ≡ 262144 → listed.NoRoom ≡ listed_of (input_text input) (length space) → ⊥
+no_room input space long was = let told = was ∙ ap (listed_of (input_text input)) long ∙ listing_told input in cc
+
+pub front_listed : (input space : List ℕ) (count : ℕ) → length space ≡ 262144 → listed.Text count ≡ listed_of (input_text input) (length space)
+    → take count (put_at space 0 (input_text input)) ≡ input_text input
+front_listed input space count long was =
+    let told = was ∙ ap (listed_of (input_text input)) long ∙ listing_told input in
+    let whole : count ≡ length (input_text input) = cc in
+    let short = listing_short input in
+    rw whole (take_put_front space (input_text input) (omega arith))
+
+-- one byte more than the program takes tells that an input is longer
+pub input_text-take : (bytes : List ℕ) → input_text (take 65537 bytes) ≡ input_text bytes
+unfolding input_text
+input_text-take bytes = go (cases_lt 65536 (length bytes))
+  where
+    go : (65536 < length bytes) ⊎ (length bytes ≤ 65536) → input_text (take 65537 bytes) ≡ input_text bytes
+    go (inl long) =
+        let cut = length-take-le 65537 bytes (omega (arith, long)) in
+        let told : 65536 < length (take 65537 bytes) = omega (arith, cut) in
+        simp (lt-ltb 65536 (length bytes) long, lt-ltb 65536 (length (take 65537 bytes)) told)
+    go (inr short) = ap input_text (take_all 65537 bytes (omega (arith, short)))

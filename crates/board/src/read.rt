@@ -124,7 +124,7 @@ pub fn read(
     play: Play,
 ) -> GivenPlay
     ensures value { result ≡ given_answer (read_of board.now starts.now count settings breaks.now play) }
-    ensures board_value { (board.now ≡ board.now) × (starts.now ≡ starts.now) × (breaks.now ≡ breaks.now) }
+    ensures unchanged { (board.exit.now ≡ board.entry.now) × (starts.exit.now ≡ starts.entry.now) × (breaks.exit.now ≡ breaks.entry.now) }
 {
     if MAX_BREAK_TIMES < breaks.len() {
         return GivenPlay::Refused {

@@ -26,7 +26,7 @@ use Rattle.encoding.proofs.RoundTrip.{object_back}
 use Rattle.simulator.specs.Attributes.{score_attributes_at}
 use Rattle.play_score.specs.PlayRules.{given_answer, given_score}
 use Rattle.play_score.specs.declared.PlayScore.{PlayScore}
-use Rattle.play_score.specs.declared.GivenPlay.TheVariants as goal
+use Rattle.play_score.specs.declared.GivenPlay.TheVariants as given
 use Rattle.slider_breaks.specs.Given.{with_breaks}
 use Rattle.slider_breaks.specs.declared.calculator.SliderFactors.{SliderFactors}
 use Rattle.slider_breaks.specs.Given as breaks
@@ -173,13 +173,13 @@ never_13_edit m words numbers place r a e =
     go true (good o) k h = accepts (is_accepted (changed m place o)) h
 
 pub never_13_read : (m : Map) (words : List ℕ) (numbers : List Float) (p : Play) → AcceptedMap m
-    → answer (read (length m.objects) m.settings (times_of m.breaks) p) (lent_for m words numbers) ≢ reads (goal.Refused 13 0)
+    → answer (read (length m.objects) m.settings (times_of m.breaks) p) (lent_for m words numbers) ≢ reads (given.Refused 13 0)
 unfolding answer
 never_13_read m words numbers p a e =
     go (given_score p (score_attributes_at m p.passed_objects)) (ruled_given p (score_attributes_at m p.passed_objects))
     (sym (ap (λ (x : Checked PlayScore). reads (given_answer x)) (read_right m words numbers p (accepted_is_within m a))) ∙ e)
   where
-    go : (x : Checked PlayScore) → Ruled x → reads (given_answer x) ≢ reads (goal.Refused 13 0)
+    go : (x : Checked PlayScore) → Ruled x → reads (given_answer x) ≢ reads (given.Refused 13 0)
     go (refused n) (rule is) h = let s : n ≡ 13 = cc in absurd (omega (arith, s, is.1))
     go (good s) k h = never (cc)
 

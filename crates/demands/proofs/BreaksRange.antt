@@ -28,7 +28,7 @@ use Rattle.miss_calc.specs.Counts.{total_hits}
 use Rattle.estimates.specs.Effective.{estimates_of}
 use Rattle.play_score.specs.PlayRules.{mods_bad, hits_exceed, exceeds, play_score, given_answer, given_score}
 use Rattle.play_score.specs.declared.PlayScore.{PlayScore}
-use Rattle.play_score.specs.declared.GivenPlay.TheVariants as goal
+use Rattle.play_score.specs.declared.GivenPlay.TheVariants as given
 use Rattle.slider_breaks.specs.Given.{BreaksScore, factors_bad, breaks_score, with_breaks}
 use Rattle.slider_breaks.specs.declared.calculator.SliderFactors.{SliderFactors}
 use Rattle.slider_breaks.specs.Given as breaks
@@ -117,7 +117,7 @@ breaks_of_a_play s p f b e = go (scores_of (file_of s)) refl v.score
     v = values_of p f (given_play_of p (scores_of (file_of s))) b e
 
     in_range : (sc : Scores) → scores_of (file_of s) ≡ values sc → (x : Checked PlayScore) → given_score p (score_attributes_at sc.map p.passed_objects) ≡ x
-        → given_answer x ≡ goal.Score b.score → BreaksInRange b.slider_breaks p.hitresults.n100
+        → given_answer x ≡ given.Score b.score → BreaksInRange b.slider_breaks p.hitresults.n100
     in_range sc q (refused n) h k = never (cc)
     in_range sc q (good t) h k =
         let same : t ≡ b.score = cc in
@@ -125,6 +125,6 @@ breaks_of_a_play s p f b e = go (scores_of (file_of s)) refl v.score
         (subst (λ (z : PlayScore). BreaksInRange (breaks_score p f z).slider_breaks p.hitresults.n100) same
         (scored_range sc.map (values_within s sc q) p f t v.factors h))
 
-    go : (x : Outcome Scores) → scores_of (file_of s) ≡ x → given_play_of p x ≡ goal.Score b.score → BreaksInRange b.slider_breaks p.hitresults.n100
+    go : (x : Outcome Scores) → scores_of (file_of s) ≡ x → given_play_of p x ≡ given.Score b.score → BreaksInRange b.slider_breaks p.hitresults.n100
     go (refusal n at) q k = never (cc)
     go (values sc) q k = in_range sc q _ refl k

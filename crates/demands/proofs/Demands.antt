@@ -30,7 +30,7 @@ use Rattle.simulator.specs.declared.attributes.OsuDifficultyAttributes.{OsuDiffi
 use Rattle.simulator.proofs.Exact.{rust_spinner_score}
 use Rattle.estimates.specs.Effective.{estimates_of}
 use Rattle.estimates.proofs.Range.{FromMissesToJudgements}
-use Rattle.play_score.specs.declared.GivenPlay.TheVariants as goal
+use Rattle.play_score.specs.declared.GivenPlay.TheVariants as given
 use Rattle.play_score.specs.PlayRules.{given_answer}
 use Rattle.slider_breaks.specs.Given.{BreaksScore, with_breaks}
 use Rattle.slider_breaks.specs.declared.calculator.SliderFactors.{SliderFactors}
@@ -216,7 +216,7 @@ pub never_13_edit : (m : Map) (words : List ℕ) (numbers : List Float) (place :
 never_13_edit = boards.never_13_edit
 
 pub never_13_read : (m : Map) (words : List ℕ) (numbers : List Float) (p : Play) → AcceptedMap m
-    → answer (read (length m.objects) m.settings (times_of m.breaks) p) (lent_for m words numbers) ≢ reads (goal.Refused BOARD 0)
+    → answer (read (length m.objects) m.settings (times_of m.breaks) p) (lent_for m words numbers) ≢ reads (given.Refused BOARD 0)
 never_13_read = boards.never_13_read
 
 pub never_13_read_breaks : (m : Map) (words : List ℕ) (numbers : List Float) (p : Play) (f : SliderFactors) → AcceptedMap m

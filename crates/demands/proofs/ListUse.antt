@@ -31,7 +31,7 @@ use Rattle.simulator.specs.Walk.{walk, after}
 use Rattle.simulator.specs.Nested.{spinner_score_of, counted, counted_all, nested_score_of}
 use Rattle.simulator.specs.Attributes.{score_attributes_at, score_attributes_of, legacy_attributes_of, difficulty_attributes_of, bonus_ratio_of}
 use Rattle.play_score.specs.PlayRules.{mods_bad, hits_exceed, exceeds, play_score, given_score}
-use Rattle.play_score.specs.declared.GivenPlay.TheVariants as goal
+use Rattle.play_score.specs.declared.GivenPlay.TheVariants as given
 use Rattle.scoring.specs.Scores.{play_scores, scores_of}
 use Rattle.exponential.specs.Exp.{series_of, squared, exp_of}
 use Rattle.miss_calc.specs.ScoreBased.{score_based_of}
@@ -169,8 +169,8 @@ sized combo n300 n100 misses c h k m = record {
 -- multiplier, combo points and legacy bonus of a read
 values_of : CallAnswer → List (ℕ × ℕ × ℕ)
 values_of (edits w) = []
-values_of (reads (goal.Refused n at)) = []
-values_of (reads (goal.Score s)) = (s.attributes.multiplier, s.attributes.legacy.combo_score, s.attributes.legacy.bonus_score.0) ∷ []
+values_of (reads (given.Refused n at)) = []
+values_of (reads (given.Score s)) = (s.attributes.multiplier, s.attributes.legacy.combo_score, s.attributes.legacy.bonus_score.0) ∷ []
 values_of (reads_breaks a) = []
 
 -- legacy bonus, and the bits of both breaks of a read with factors, or the number and offset of its refusal

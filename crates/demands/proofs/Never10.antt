@@ -16,7 +16,7 @@ use Rattle.play_reader.specs.declared.Simulated.TheVariants as simulated
 use Rattle.play_score.specs.PlayRules.{given_answer, given_score}
 use Rattle.play_score.specs.declared.PlayScore.{PlayScore}
 use Rattle.slider_breaks.specs.Given.{GivenBreaks, with_breaks}
-use Rattle.slider_breaks.specs.Given as goal
+use Rattle.slider_breaks.specs.Given as breaks
 use Rattle.scoring.specs.Scores.{Outcome, refusal, values, Scores, scores_of, map_score_of, given_play_of, play_at, listed_play_of}
 use Rattle.scoring.proofs.Rules.{IsRule, RuledFile, rule, ruled_file, refusal_rule, ruled_given}
 use Rattle.board.specs.Place.{written_left}
@@ -90,8 +90,8 @@ given_not_10 (refused n) (number h) = h.not_10
 given_not_10 (good s) value = λ e. omega (arith, e)
 
 breaks_not_10 : (x : GivenBreaks) → BreaksNumbered x → (breaks_answer_of x).status ≢ 10
-breaks_not_10 (goal.Score s) scored = λ e. omega (arith, e)
-breaks_not_10 (goal.Refused n at) (numbered h) = h.not_10
+breaks_not_10 (breaks.Score s) scored = λ e. omega (arith, e)
+breaks_not_10 (breaks.Refused n at) (numbered h) = h.not_10
 
 left_not_10 : (x : Checked (List ℕ × List Float)) (b : List ℕ) (ts : List Float) → Numbered x → (status_left (written_left x b ts)).0.status ≢ 10
 left_not_10 (refused n) b ts (number h) = h.not_10

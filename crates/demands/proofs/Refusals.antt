@@ -29,7 +29,7 @@ use Rattle.estimates.proofs.Range.{FromMissesToJudgements, effective_range}
 use Rattle.play_score.specs.PlayRules.{given_answer, given_score}
 use Rattle.play_score.specs.declared.PlayScore.{PlayScore}
 use Rattle.slider_breaks.specs.Given.{BreaksScore, GivenBreaks, factors_bad, breaks_score, with_breaks}
-use Rattle.slider_breaks.specs.Given as goal
+use Rattle.slider_breaks.specs.Given as breaks
 use Rattle.slider_breaks.specs.declared.calculator.SliderFactors.{SliderFactors}
 use Rattle.scoring.specs.Scores.{Outcome, refusal, values, Scores, scores_of, given_play_of}
 use Rattle.scoring.proofs.Rules.{IsRule, Ruled, fine, rule, refusal_rule, ruled_given}
@@ -59,14 +59,14 @@ edit_numbered b ts n place r =
 -- ---- with factors
 -- values, or one of the numbers 2 to 14
 pub data BreaksNumbered : GivenBreaks → Type 0 where
-  scored : {s : BreaksScore} → BreaksNumbered (goal.Score s)
-  numbered : {n at : ℕ} → Number 14 n → BreaksNumbered (goal.Refused n at)
+  scored : {s : BreaksScore} → BreaksNumbered (breaks.Score s)
+  numbered : {n at : ℕ} → Number 14 n → BreaksNumbered (breaks.Refused n at)
 
 numbered_with : (p : Play) (f : SliderFactors) (x : Checked PlayScore) → Numbered x → BreaksNumbered (with_breaks p f (given_answer x))
 numbered_with p f (refused n) (number h) = numbered (record { least = h.least; most = omega (arith, h.most); not_10 = h.not_10 })
 numbered_with p f (good s) value = go (factors_bad f)
   where
-    go : (t : Bool) → BreaksNumbered (pick t (goal.Refused FACTOR 0) (goal.Score (breaks_score p f s)))
+    go : (t : Bool) → BreaksNumbered (pick t (breaks.Refused FACTOR 0) (breaks.Score (breaks_score p f s)))
     go true = numbered {n = FACTOR} (number_is 14 FACTOR refl)
     go false = scored
 

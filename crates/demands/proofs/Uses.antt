@@ -40,7 +40,7 @@ use Rattle.play_reader.specs.declared.Simulated.TheVariants as simulated
 use Rattle.miss_calc.specs.Counts.{total_hits}
 use Rattle.miss_calc.specs.ScoreBased.{combo_product_of}
 use Rattle.estimates.specs.Effective.{estimates_of}
-use Rattle.play_score.specs.declared.GivenPlay.TheVariants as goal
+use Rattle.play_score.specs.declared.GivenPlay.TheVariants as given
 use Rattle.play_score.specs.PlayRules.{given_answer}
 use Rattle.slider_breaks.specs.Given.{BreaksScore, GivenBreaks, with_breaks}
 use Rattle.slider_breaks.specs.declared.calculator.SliderFactors.{SliderFactors}
@@ -313,7 +313,7 @@ no_13_read : (s : List ℕ) (b : List ℕ) (ts : List Float) (cs : List Call) (p
     → (built (scores_of (file_of s)) b ts).0 ≡ written.Done
     → MayStand cs (map_in (file_of s)) (lent_by s b ts)
     → answer (read (length (map_after_all cs (map_in (file_of s))).objects) (map_after_all cs (map_in (file_of s))).settings (times_of (map_after_all cs (map_in (file_of s))).breaks) p) (lent_after_all cs (lent_by s b ts))
-    ≢ reads (goal.Refused BOARD 0)
+    ≢ reads (given.Refused BOARD 0)
 no_13_read s b ts cs p d h e =
     let left = left_by_every_list s b ts cs d h in
     let m = map_after_all cs (map_in (file_of s)) in

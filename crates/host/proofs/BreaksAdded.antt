@@ -14,7 +14,7 @@ use Rattle.simulator.specs.Attributes.{score_attributes_at}
 use Rattle.play_score.specs.PlayRules.{given_answer}
 use Rattle.play_score.specs.declared.PlayScore.{PlayScore}
 use Rattle.play_score.specs.declared.GivenPlay.{GivenPlay}
-use Rattle.play_score.specs.declared.GivenPlay.TheVariants as goal
+use Rattle.play_score.specs.declared.GivenPlay.TheVariants as given
 use Rattle.slider_breaks.specs.SliderBreaks.{estimated_breaks}
 use Rattle.slider_breaks.specs.Given.{factors_bad, breaks_score, with_breaks}
 use Rattle.slider_breaks.specs.Given as given_breaks
@@ -29,13 +29,13 @@ use Rattle.host.specs.Breaks.{breaks_answer_of, added_to, answer_with}
 
 -- a refusal has a number above 0
 abbrev Told : GivenPlay → Type 0
-Told (goal.Refused n at) = 1 ≤ n
-Told (goal.Score s) = Unit {0}
+Told (given.Refused n at) = 1 ≤ n
+Told (given.Score s) = Unit {0}
 
 added_is : (p : Play) (f : SliderFactors) (g : GivenPlay) → Told g → answer_with (given_answer_of g) (added_to p f (given_answer_of g)) ≡ breaks_answer_of (with_breaks p f g)
 unfolding added_to
-added_is p f (goal.Refused n at) h = simp (ne_eqb n 0 (λ e. omega (arith, h, e)))
-added_is p f (goal.Score s) h = go (factors_bad f)
+added_is p f (given.Refused n at) h = simp (ne_eqb n 0 (λ e. omega (arith, h, e)))
+added_is p f (given.Score s) h = go (factors_bad f)
   where
     go : (t : Bool)
         → answer_with (play_answer_in s) (pick t added.BadFactors (added.SliderBreaks (estimated_breaks p s.attributes.difficulty.max_combo s.estimates.effective f)))

@@ -7,16 +7,16 @@ use Rattle.listing.specs.Listing.{input_text, listed_of}
 use Rattle.listing.specs.declared.Listed.TheVariants as listed
 use Rattle.listing.proofs.Fits.{listing_short, listing_told}
 
-pub no_room : (input space : List ℕ) → length space ≡ 262144 → listed.NoRoom ≡ listed_of (input_text input) (length space) → ⊥
-no_room input space long was = let told = was ∙ ap (listed_of (input_text input)) long ∙ listing_told input in cc
+module _ (input old new : List ℕ) (after : new ≡ put_at old 0 (input_text input)) (long : length old ≡ 262144) where
+  pub no_room : listed.NoRoom ≡ listed_of (input_text input) (length old) → ⊥
+  no_room was = let told = was ∙ ap (listed_of (input_text input)) long ∙ listing_told input in cc
 
-pub front_listed : (input space : List ℕ) (count : ℕ) → length space ≡ 262144 → listed.Text count ≡ listed_of (input_text input) (length space)
-    → take count (put_at space 0 (input_text input)) ≡ input_text input
-front_listed input space count long was =
-    let told = was ∙ ap (listed_of (input_text input)) long ∙ listing_told input in
-    let whole : count ≡ length (input_text input) = cc in
-    let short = listing_short input in
-    rw whole (take_put_front space (input_text input) (omega arith))
+  pub front_listed : (count : ℕ) → listed.Text count ≡ listed_of (input_text input) (length old) → take count new ≡ input_text input
+  front_listed count was =
+      let told = was ∙ ap (listed_of (input_text input)) long ∙ listing_told input in
+      let whole : count ≡ length (input_text input) = cc in
+      let short = listing_short input in
+      ap (take count) after ∙ rw whole (take_put_front old (input_text input) (omega arith))
 
 -- one byte more than the program takes tells that an input is longer
 pub input_text-take : (bytes : List ℕ) → input_text (take 65537 bytes) ≡ input_text bytes

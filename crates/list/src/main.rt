@@ -10,7 +10,6 @@ ghost use Rattle.list.specs.Places.{MovedWithin, MovesBytes};
 
 use anyhow::{Context, Result};
 use listing::{Listed, MAX_INPUT, list_input};
-use std::alloc::{AllocError, Global};
 use std::io;
 use std::io::{ErrorKind, Read, Write};
 
@@ -64,31 +63,32 @@ fn read_input<R: Read>(reader: &mut R, space: &mut [u8]) -> io::Result<usize>
     Err(io::Error::from(ErrorKind::TimedOut))
 }
 
-// The listing of the input.
-fn listing_of(alloc: Global, input: &[u8]) -> Result<Vec<u8>, AllocError>
-    ensures { IfOk result (λ text. text.items ≡ input_text input.now) }
+// Writes the listing of the input.
+fn write_listing<W: Write>(input: &[u8], writer: &mut W) -> Result<()>
+    ensures { OnOk result (Appends (W.contents writer.old) (W.contents writer.new) (input_text input.now)) }
 {
-    let mut text = vec![in alloc; 0u8; LISTING]?;
-    match list_input(input, &mut text) {
-        Listed::Text(count) => text.truncate(count),
+    let mut space = [0u8; LISTING];
+    match list_input(input, &mut space) {
+        Listed::Text(count) => writer
+            .write_all(&space[..count])
+            .context("standard output")?,
         // The space is longer than any listing: `listing_told` of listing/proofs/Fits.
         Listed::NoRoom => unreachable!(),
     }
-    Ok(text)
+    Ok(())
 }
 
 // Reads the input, and writes its listing.
-fn list<R: Read, W: Write>(alloc: Global, reader: &mut R, writer: &mut W) -> Result<()>
+fn list<R: Read, W: Write>(reader: &mut R, writer: &mut W) -> Result<()>
     ensures { OnOk result (IfSome (R.remaining reader.old) (λ bytes.
         Appends (W.contents writer.old) (W.contents writer.new) (input_text bytes))) }
 {
-    let mut space = vec![in alloc; 0u8; INPUT]?;
+    let mut space = [0u8; INPUT];
     let count = read_input(reader, &mut space).context("standard input")?;
-    let text = listing_of(alloc, &space[..count])?;
-    writer.write_all(&text).context("standard output")?;
+    write_listing(&space[..count], writer)?;
     Ok(())
 }
 
 fn main(rt: HostRuntime) -> Result<()> {
-    list(rt.alloc(), &mut rt.stdin(), &mut rt.stdout())
+    list(&mut rt.stdin(), &mut rt.stdout())
 }

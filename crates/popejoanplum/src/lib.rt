@@ -139,7 +139,7 @@ pub extern "C" fn pjp_read(
     play: HostPlay,
 ) -> PlayAnswer
     ensures value { result ≡ given_answer_of (given_answer (read_of board.now starts.now count (settings_in settings) breaks.now (play_in play))) }
-    ensures board_value { (board.now ≡ board.now) × (starts.now ≡ starts.now) × (breaks.now ≡ breaks.now) }
+    ensures unchanged { (board.exit.now ≡ board.entry.now) × (starts.exit.now ≡ starts.entry.now) × (breaks.exit.now ≡ breaks.entry.now) }
 {
     given_answer_of(read(
         board,
@@ -163,7 +163,7 @@ pub extern "C" fn pjp_read_breaks(
     factors: HostFactors,
 ) -> BreaksAnswer
     ensures value { result ≡ breaks_answer_of (with_breaks (play_in play) (factors_in factors) (given_answer (read_of board.now starts.now count (settings_in settings) breaks.now (play_in play)))) }
-    ensures board_value { (board.now ≡ board.now) × (starts.now ≡ starts.now) × (breaks.now ≡ breaks.now) }
+    ensures unchanged { (board.exit.now ≡ board.entry.now) × (starts.exit.now ≡ starts.entry.now) × (breaks.exit.now ≡ breaks.entry.now) }
 {
     let answer = pjp_read(board, starts, count, settings, breaks, play);
     answer_with(answer, added_by(play_in(play), factors_in(factors), answer))

@@ -6,7 +6,6 @@ ghost use Rattle.std.specs.Prelude.{◌≡◌, ◌↔◌, IfOk, IsTrue};
 
 use frames::{read_front, starts_with};
 use listing::{Listed, list_file, list_input};
-use std::alloc::{AllocError, Global};
 use std::io::{Read, Write};
 use std::{fmt, io};
 
@@ -44,9 +43,9 @@ struct Tallies {
 // Where each row is read and listed, over the row before.
 #[derive(Drop)]
 struct Spaces {
-    due: Vec<u8>,
-    file: Vec<u8>,
-    text: Vec<u8>,
+    due: [u8; SPACE],
+    file: [u8; SPACE],
+    text: [u8; SPACE],
 }
 
 impl From<u8> for Kind {
@@ -133,13 +132,11 @@ fn replay_row<R: Read, W: Write>(
 }
 
 impl Spaces {
-    fn new(alloc: Global) -> Result<Spaces, AllocError> {
-        Ok(Spaces {
-            due: vec![in alloc; 0u8; SPACE]?,
-            file: vec![in alloc; 0u8; SPACE]?,
-            text: vec![in alloc; 0u8; SPACE]?,
-        })
-    }
+    const EMPTY: Spaces = Spaces {
+        due: [0; SPACE],
+        file: [0; SPACE],
+        text: [0; SPACE],
+    };
 }
 
 impl Tally {
@@ -177,12 +174,8 @@ impl Tallies {
 }
 
 // Replays rows until the input ends, or a row is cut.
-fn replay_all<R: Read, W: Write>(
-    alloc: Global,
-    reader: &mut R,
-    writer: &mut W,
-) -> io::Result<Tallies> {
-    let mut spaces = Spaces::new(alloc)?;
+fn replay_all<R: Read, W: Write>(reader: &mut R, writer: &mut W) -> io::Result<Tallies> {
+    let mut spaces = Spaces::EMPTY;
     let mut tallies = Tallies::default();
     for _ in 0..u64::MAX {
         let Some(kind) = read_kind(reader)? else {
@@ -198,6 +191,6 @@ fn replay_all<R: Read, W: Write>(
 }
 
 fn main(rt: HostRuntime) -> io::Result<()> {
-    let Tallies { refusals, listings } = replay_all(rt.alloc(), &mut rt.stdin(), &mut rt.stdout())?;
+    let Tallies { refusals, listings } = replay_all(&mut rt.stdin(), &mut rt.stdout())?;
     println!(rt; "{refusals} rows of the table of refusals and {listings} listings agree")
 }

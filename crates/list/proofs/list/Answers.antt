@@ -1,6 +1,5 @@
 -- What was read is all that the space takes of the reader's bytes, and the text that was written is the listing of it.
-use Rattle.std.proofs.Common.{List, ℕ, take, ap, ◌∙◌, subst, rules, arith}
-use Rattle.std.proofs.lemmas.List.{places, with_items_is}
+use Rattle.std.proofs.Common.{List, ℕ, subst, rules, arith}
 use Rattle.std.specs.Io.KnownBytes.{Appends}
 use Rattle.listing.specs.Listing.{input_text}
 use Rattle.list.proofs.Fronts.{front_told}
@@ -13,10 +12,7 @@ returns g c =
     let within = rw c.in_ok-count.ensures at c.read_input.ensures.within in
     let read = rw c.in_ok-count.ensures at c.read_input.ensures.bytes in
     let ends = rw c.in_ok-count.ensures at c.read_input.ensures.end in
-    let written = rw c.in_ok-context.ensures at c.write_all.ensures.bytes in
-    let long = c.deref_mut.ensures.len ∙ c.in_ok-space.ensures.len in
-    let kept = with_items_is c.in_ok-space.space c.read_input.new.space (search (rules, places)) in
-    let text = c.deref-2.ensures.value ∙ c.in_ok-text.ensures ∙ ap (λ (l : List ℕ). input_text (take count l)) (c.deref.ensures.value ∙ kept) in
-    let Writes : List ℕ → Type 0 = λ listing. Appends (g.W.Write.contents c.args.writer.now) (g.W.Write.contents c.write_all.new.self) listing in
+    let written = rw c.in_ok-write_listing.was at c.write_listing.ensures in
+    let Writes : List ℕ → Type 0 = λ listing. Appends (g.W.Write.contents c.args.writer.now) (g.W.Write.contents c.write_listing.new.writer) listing in
     front_told _ _ c.read_input.new.space count 65537 (λ bytes. Writes (input_text bytes)) (λ bytes. subst Writes (input_text-take bytes))
-    (c.read_input.auto.space ∙ long) (omega (arith, within, long)) read (λ short. ends (omega (arith, short, long))) (subst Writes text written)
+    c.read_input.auto.space (omega (arith, within)) read (λ short. ends (omega (arith, short))) written

@@ -11,5 +11,5 @@ returns c =
         c.play_in.ensures,
         c.settings_in.ensures,
       );
-      board_value = (refl, refl, refl);
+      unchanged = (refl, refl, refl);
     }

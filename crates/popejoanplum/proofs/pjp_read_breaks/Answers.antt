@@ -11,5 +11,5 @@ returns c =
     record {
       value = simp (c.answer_with.ensures, c.added_by.ensures, c.factors_in.ensures, c.play_in.ensures, c.pjp_read-answer.ensures.value)
           (added_read c.args.board.now c.args.starts.now c.args.count (settings_in c.args.settings) c.args.breaks.now (play_in c.args.play) (factors_in c.args.factors));
-      board_value = (refl, refl, refl);
+      unchanged = (refl, refl, refl);
     }

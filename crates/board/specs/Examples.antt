@@ -35,8 +35,8 @@ number (refused n) = n
 number (good a) = 0
 
 -- ---- an edit's record. A float is given by its bits
-abbrev not_anumber : ℕ
-not_anumber = 0x7ff8_0000_0000_0000
+abbrev not_a_number : ℕ
+not_a_number = 0x7ff8_0000_0000_0000
 
 abbrev thousand : ℕ
 thousand = 0x408f_4000_0000_0000
@@ -72,7 +72,7 @@ records =
     ∷ (circle 0 ++ 0 ∷ [], 3)
     ∷ (slider 0 1 (2 ∷ 2 ∷ []), 3)
     ∷ (spinner 0 thousand ++ 0 ∷ [], 3)
-    ∷ (circle not_anumber ++ 0 ∷ [], 4)
+    ∷ (circle not_a_number ++ 0 ∷ [], 4)
     ∷ (slider 0 2 (2 ∷ 2 ∷ 0 ∷ []), 5)
     ∷ (slider 0 1001 (replicate 1000 0 ++ 2 ∷ 0 ∷ []), 6)
     -- "6: .. more than 1,000 nested items", before the 2 of the list
@@ -115,7 +115,7 @@ abbrev starts : ℕ → List Float
 starts n = replicate n (of_bits binary64 0)
 
 abbrev bad_start : List Float
-bad_start = of_bits binary64 not_anumber ∷ []
+bad_start = of_bits binary64 not_a_number ∷ []
 
 -- ---- edits: "Other calls on a board check 6, 11 and 12 first, then their arguments (an edit its record ..), then 13 and 7 entry by entry as read"
 abbrev Edit : Type 0
@@ -146,7 +146,7 @@ edits =
     ∷ (two none (objects 8193 0), starts 2, 2, 0, circle 0, 13)
     ∷ (two (objects 8193 0) none, starts 2, 2, 1, circle 0, 13)
     ∷ (two none (objects 8193 0), starts 2, 2, 0, circle 0 ++ 0 ∷ [], 3)
-    ∷ (two none (objects 8193 0), starts 2, 2, 0, circle not_anumber, 4)
+    ∷ (two none (objects 8193 0), starts 2, 2, 0, circle not_a_number, 4)
     -- the replaced entry and the starts are not read
     ∷ (two (objects 8193 0) none, bad_start ++ bad_start, 2, 0, circle 0, 0)
     -- "a combined word is above its limit"

@@ -41,8 +41,8 @@ minus_zero = 0x8000_0000_0000_0000
 abbrev infinity : ℕ
 infinity = 0x7ff0_0000_0000_0000
 
-abbrev not_anumber : ℕ
-not_anumber = 0x7ff8_0000_0000_0000
+abbrev not_a_number : ℕ
+not_a_number = 0x7ff8_0000_0000_0000
 
 abbrev one : ℕ
 one = 0x3ff0_0000_0000_0000
@@ -50,8 +50,8 @@ one = 0x3ff0_0000_0000_0000
 abbrev thousand : ℕ
 thousand = 0x408f_4000_0000_0000
 
-abbrev not_anumber32 : ℕ
-not_anumber32 = 0x7fc0_0000
+abbrev not_a_number32 : ℕ
+not_a_number32 = 0x7fc0_0000
 
 -- ---- the smallest file that gets each of the numbers 2 to 6 and 8, and two that get none
 -- a refusal's number and offset, and 0 at 0 for an accepted file
@@ -67,7 +67,7 @@ files =
     (empty, 0, 0)
     ∷ (0 ∷ [], 2, 0)
     ∷ ([], 3, 0)
-    ∷ (header 0 0 not_anumber32, 4, 0)
+    ∷ (header 0 0 not_a_number32, 4, 0)
     ∷ (empty ++ slider 0 0 [], 5, 14)
     ∷ (empty ++ slider 0 1001 [], 6, 14)
     ∷ (empty ++ play 3 0 0 0 one, 8, 14)
@@ -107,32 +107,32 @@ orders =
     ∷ (break 0 0, objects 1 0, 3)
     -- 3 before 2, and before 4: of a break behind an object the mark alone; a second header, hp a NaN
     ∷ (take 2 (break 0 0), behind object_rank, 3)
-    ∷ (header not_anumber32 0 0, behind header_rank, 3)
+    ∷ (header not_a_number32 0 0, behind header_rank, 3)
     -- 6 before 2: of the 129th break, and of the 8,193rd object, the mark alone
     ∷ (take 2 (break 0 0), breaks 128, 6)
     ∷ (take 2 (circle 0), objects 8192 0, 6)
     -- 6 before 4: the start of the 129th break, and of the 8,193rd object, is a NaN
-    ∷ (break not_anumber 0, breaks 128, 6)
-    ∷ (circle not_anumber, objects 8192 0, 6)
+    ∷ (break not_a_number 0, breaks 128, 6)
+    ∷ (circle not_a_number, objects 8192 0, 6)
     -- 2 before 4: a header that ends behind hp, which is a NaN; the other records without their last byte, their start a NaN
-    ∷ (take 6 (header not_anumber32 0 0), behind no_rank, 2)
-    ∷ (take 17 (break not_anumber 0), behind header_rank, 2)
-    ∷ (take 11 (slider not_anumber 0 []), behind header_rank, 2)
-    ∷ (take 17 (spinner not_anumber 0), behind header_rank, 2)
+    ∷ (take 6 (header not_a_number32 0 0), behind no_rank, 2)
+    ∷ (take 17 (break not_a_number 0), behind header_rank, 2)
+    ∷ (take 11 (slider not_a_number 0 []), behind header_rank, 2)
+    ∷ (take 17 (spinner not_a_number 0), behind header_rank, 2)
     -- 2 before 8: a play of origin 3 without its last byte
     ∷ (take 43 (play 3 0 0 0 one), behind header_rank, 2)
     -- 4 before 6: a slider that starts at a NaN, with 1,001 items
-    ∷ (slider not_anumber 1001 [], behind header_rank, 4)
+    ∷ (slider not_a_number 1001 [], behind header_rank, 4)
     -- 6 before 2: a slider of 1,001 items without its list
     ∷ (slider 0 1001 [], behind header_rank, 6)
     -- 4 before the list's 2: a slider that starts at a NaN, without its list
-    ∷ (slider not_anumber 2 [], behind header_rank, 4)
+    ∷ (slider not_a_number 2 [], behind header_rank, 4)
     -- 2 before 5: a list of 2 without its last byte, with a tail too early, or an item 3
     ∷ (slider 0 2 (2 ∷ []), behind header_rank, 2)
     ∷ (slider 0 2 (3 ∷ []), behind header_rank, 2)
     -- 4 before 5: a slider that starts at a NaN, with an item 3, or with count 0
-    ∷ (slider not_anumber 2 (3 ∷ 2 ∷ []), behind header_rank, 4)
-    ∷ (slider not_anumber 0 [], behind header_rank, 4)
+    ∷ (slider not_a_number 2 (3 ∷ 2 ∷ []), behind header_rank, 4)
+    ∷ (slider not_a_number 0 [], behind header_rank, 4)
     -- 2 before 7, and 4: a spinner without its last byte, and one of 4,000,000, where the bonus so far is at its limit
     ∷ (take 17 (spinner 0 thousand), objects 1 2147483647, 2)
     ∷ (spinner 0 0x414e_8480_0000_0000, objects 1 2147483647, 4)
@@ -201,7 +201,7 @@ edges =
     ∷ (circle 0x415e_8480_0000_0001, behind header_rank, 4)
     ∷ (circle 0xc15e_8480_0000_0001, behind header_rank, 4)
     ∷ (circle infinity, behind header_rank, 4)
-    ∷ (circle not_anumber, behind header_rank, 4)
+    ∷ (circle not_a_number, behind header_rank, 4)
     -- each record that has a time
     ∷ (break 0x415e_8480_0000_0000 0xc15e_8480_0000_0000, behind header_rank, 0)
     ∷ (break 0x415e_8480_0000_0001 0, behind header_rank, 4)
@@ -215,13 +215,13 @@ edges =
     ∷ (header 0 0x4140_0001 0, behind no_rank, 4)
     ∷ (header 0 0 0x4140_0001, behind no_rank, 4)
     ∷ (header 0x8000_0001 0 0, behind no_rank, 4)
-    ∷ (header not_anumber32 0 0, behind no_rank, 4)
+    ∷ (header not_a_number32 0 0, behind no_rank, 4)
     -- "duration f64 from 0 to 3,600,000": for the upper end itself see `longest`
     ∷ (spinner 0 minus_zero, behind header_rank, 0)
     ∷ (spinner 0 0x8000_0000_0000_0001, behind header_rank, 4)
     ∷ (spinner 0 0x414b_7740_0000_0001, behind header_rank, 4)
     ∷ (spinner 0 infinity, behind header_rank, 4)
-    ∷ (spinner 0 not_anumber, behind header_rank, 4)
+    ∷ (spinner 0 not_a_number, behind header_rank, 4)
     -- "count bytes: 0 tick, 1 repeat, 2 tail. The last byte is the only tail; count 0 is refused (5)"
     ∷ (slider 0 1 (2 ∷ []), behind header_rank, 0)
     ∷ (slider 0 3 (0 ∷ 1 ∷ 2 ∷ []), behind header_rank, 0)
@@ -249,7 +249,7 @@ edges =
     ∷ (play 0 0 0 0 minus_zero, behind header_rank, 8)
     ∷ (play 0 0 0 0 0xbff0_0000_0000_0000, behind header_rank, 8)
     ∷ (play 0 0 0 0 infinity, behind header_rank, 8)
-    ∷ (play 0 0 0 0 not_anumber, behind header_rank, 8)
+    ∷ (play 0 0 0 0 not_a_number, behind header_rank, 8)
     ∷ []
 
 rows : List Row

@@ -33,7 +33,8 @@ pub fn room_for(board: &[u64], starts: &[f64], count: usize) -> Room
     if board.len() < Entry::PLACE_WORDS * size.cap {
         return Room::Refused(refusal::ROOM);
     }
-    if starts.len() < count {
+    let numbers = starts.len();
+    if numbers < count {
         return Room::Refused(refusal::ROOM);
     }
     Room::Is(size)

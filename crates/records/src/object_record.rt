@@ -16,6 +16,9 @@ pub enum Nested {
     Wrong,
 }
 
+// The highest item before a list's last, a repeat.
+const HIGHEST_INSIDE: u16 = 1;
+
 // No test in the loop and counters of 16 bits, so that the compiler takes many items at a time. An item above 1 leaves a bit in `high`;
 // without one, an item is its own count of repeats.
 fn count_nested(items: &[u8]) -> Nested
@@ -35,7 +38,7 @@ fn count_nested(items: &[u8]) -> Nested
         high = high | b;
         i += 1;
     }
-    if 1 < high {
+    if HIGHEST_INSIDE < high {
         return Nested::Wrong;
     }
     let repeats = ones as u64;

@@ -17,14 +17,14 @@ returns-then-board-size c =
     let cap : c.size_of-size.result.cap ≡ cap_of c.args.count = c.size_of-size.ensures.1 in
     sym (ap (room_of c.args.count) (rooms.few_words c.args.board.now c.args.starts.now c.args.count c.if-count.false (omega (arith, cap, c.if-board-size.true))))
 
-pub returns-then-starts-count : goal.returns-then-starts-count
-returns-then-starts-count c =
+pub returns-then-numbers-count : goal.returns-then-numbers-count
+returns-then-numbers-count c =
     let cap : c.size_of-size.result.cap ≡ cap_of c.args.count = c.size_of-size.ensures.1 in
-    sym (ap (room_of c.args.count) (rooms.few_numbers c.args.board.now c.args.starts.now c.args.count c.if-count.false (omega (arith, cap, c.if-board-size.false)) c.if-starts-count.true))
+    sym (ap (room_of c.args.count) (rooms.few_numbers c.args.board.now c.args.starts.now c.args.count c.if-count.false (omega (arith, cap, c.if-board-size.false)) c.if-numbers-count.true))
 
 pub returns : goal.returns
 returns c =
     let cap : c.size_of-size.result.cap ≡ cap_of c.args.count = c.size_of-size.ensures.1 in
     let levels : c.size_of-size.result.levels ≡ levels_of c.args.count = c.size_of-size.ensures.0 in
     ap₂ (λ (l n : ℕ). room.Is (record { levels = l; cap = n })) levels cap
-    ∙ sym (ap (room_of c.args.count) (rooms.roomy c.args.board.now c.args.starts.now c.args.count c.if-count.false (omega (arith, cap, c.if-board-size.false)) c.if-starts-count.false))
+    ∙ sym (ap (room_of c.args.count) (rooms.roomy c.args.board.now c.args.starts.now c.args.count c.if-count.false (omega (arith, cap, c.if-board-size.false)) c.if-numbers-count.false))

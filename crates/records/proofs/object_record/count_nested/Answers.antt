@@ -42,8 +42,8 @@ pub loop-i-preserved : goal.loop-i-preserved
 loop-i-preserved c =
     (passed_next c.args.items.now c.loop-i.ones c.loop-i.high c.loop-i.i (omega arith) c.loop-i.invariant.0, omega arith)
 
-pub returns-then-high-gt1 : goal.returns-then-high-gt1
-returns-then-high-gt1 c = sym (c.loop-i.invariant.0.over c.if-high-gt1.true)
+pub returns-then-high-gt-HIGHEST_INSIDE : goal.returns-then-high-gt-HIGHEST_INSIDE
+returns-then-high-gt-HIGHEST_INSIDE c = sym (c.loop-i.invariant.0.over c.if-high-gt-HIGHEST_INSIDE.true)
 
 pub bounds-items-last : goal.bounds-items-last
 bounds-items-last c = omega arith
@@ -56,7 +56,7 @@ returns-then-items-last-eq2 c =
     let items = c.args.items.now in
     let e : c.loop-i.i ≡ length items - 1 = omega arith in
     sym
-    (c.loop-i.invariant.0.right c.if-high-gt1.false
+    (c.loop-i.invariant.0.right c.if-high-gt-HIGHEST_INSIDE.false
     ∙ tail items c.loop-i.i c.loop-i.ones (c.loop-i.i - c.loop-i.ones) (omega arith) (ap (λ (i : ℕ). get_or items i 0) e ∙ c.if-items-last-eq2.true)
     ∙ ap (λ (i : ℕ). Counts (record { repeats = c.loop-i.ones; ticks = i - c.loop-i.ones })) e)
 
@@ -65,5 +65,5 @@ returns c =
     let items = c.args.items.now in
     let e : c.loop-i.i ≡ length items - 1 = omega arith in
     sym
-    (c.loop-i.invariant.0.right c.if-high-gt1.false
+    (c.loop-i.invariant.0.right c.if-high-gt-HIGHEST_INSIDE.false
     ∙ no_tail items c.loop-i.i c.loop-i.ones (c.loop-i.i - c.loop-i.ones) (omega arith) (λ k. c.if-items-last-eq2.false (ap (λ (i : ℕ). get_or items i 0) (sym e) ∙ k)))

@@ -1,12 +1,23 @@
-//! Notes the compiler's version for the page of results. The binding links the archive.
+//! Notes the versions of the compiler and of the kit for the page of results. The binding links the archive.
 
 use std::{env, process::Command};
 
 fn main() {
     println!("cargo:rerun-if-changed=build.rs");
     let compiler = env::var_os("RUSTC").expect("cargo sets RUSTC");
-    let said = Command::new(compiler).arg("--version").output();
-    let version = said.map(|said| String::from_utf8_lossy(&said.stdout).trim().to_owned());
-    let version = version.unwrap_or("an unknown rustc".to_owned());
-    println!("cargo:rustc-env=COMPILER={version}");
+    let compiler = said(Command::new(compiler).arg("--version"));
+    println!(
+        "cargo:rustc-env=COMPILER={}",
+        compiler.unwrap_or("an unknown rustc".to_owned())
+    );
+    let kit = said(Command::new("rt").arg("version"));
+    println!(
+        "cargo:rustc-env=KIT={}",
+        kit.unwrap_or("an unknown kit".to_owned())
+    );
+}
+
+fn said(command: &mut Command) -> Option<String> {
+    let output = command.output().ok()?;
+    Some(String::from_utf8_lossy(&output.stdout).trim().to_owned())
 }

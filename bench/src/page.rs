@@ -13,6 +13,7 @@ pub fn page(results: &Results, series: Series, machine: &Machine, taken: Option<
         processor = machine.processor,
         cores = machine.cores,
         compiler = env!("COMPILER"),
+        kit = env!("KIT"),
         quiet = QUIET,
         taken = others(taken),
         rounds = series.rounds,

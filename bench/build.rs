@@ -18,6 +18,6 @@ fn main() {
 }
 
 fn said(command: &mut Command) -> Option<String> {
-    let output = command.output().ok()?;
+    let output = command.output().ok().filter(|it| it.status.success())?;
     Some(String::from_utf8_lossy(&output.stdout).trim().to_owned())
 }

@@ -37,7 +37,7 @@ use Rattle.board.specs.declared.place.Written.TheVariants as written
 use Rattle.board.proofs.Edits as edits
 use Rattle.board_build.specs.Build.{build_of, built}
 use Rattle.demands.specs.Calls.{is_accepted, AcceptedMap, changed, times_of, map_in, Lent, lent_for, Call, edit, read, read_breaks, edits as answered, reads, reads_breaks, answer, lent_after, put_if_accepted, map_after, from_file, ReadAnswer, ReadBreaksAnswer, IsRefused, Stands, MayStand, Answers, Right, lent_by, Claim}
-use Rattle.demands.proofs.Maps.{within_scored, accepted_is_within, within-is_accepted, changed-within, by_bonus}
+use Rattle.demands.proofs.Maps.{within_scored, accepted_is_within, within_is_accepted, changed-within, by_bonus}
 use Rattle.demands.proofs.EditRight.{edit_right}
 use Rattle.demands.proofs.ReadRight.{read_right}
 
@@ -55,7 +55,7 @@ pub edit_accepts : (m : Map) → AcceptedMap m → (place : ℕ) (r : List ℕ) 
 edit_accepts m a place r o e t =
     let w = accepted_is_within m a in
     let v = edits.alone_within r o e in
-    within-is_accepted (changed m place o) (changed-within m w place o v (low_bonus m w place o v t))
+    within_is_accepted (changed m place o) (changed-within m w place o v (low_bonus m w place o v t))
 
 put_within : (m : Map) → MapWithin m → (place : ℕ) (r : List ℕ) → MapWithin (put_if_accepted m place (object_in r))
 put_within m w place r = go (object_in r) refl
@@ -179,7 +179,7 @@ module _ (words : List ℕ) (numbers : List Float) where
 
   -- a list of calls on the board of a map within the limits
   pub list_right : (cs : List Call) (m : Map) → MapWithin m → MayStand cs m (lent_for m words numbers) → Right words numbers cs m (lent_for m words numbers)
-  list_right [] m w _ = (within-is_accepted m w, refl)
+  list_right [] m w _ = (within_is_accepted m w, refl)
   list_right (c ∷ cs) m w stand =
       let s = call_steps c m w stand.0 in (
         s.0,

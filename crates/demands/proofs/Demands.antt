@@ -51,13 +51,13 @@ use Rattle.listing.specs.declared.Listed.TheVariants as listed
 use Rattle.listing.proofs.Fits.{listing_told}
 use Rattle.demands.specs.Calls.{is_accepted, AcceptedMap, changed, times_of, map_in, lent_for, lent_by, Call, edit, read, read_breaks, edits, reads, reads_breaks, answer, map_after_all, lent_after_all, MayStand, Claim}
 use Rattle.board.proofs.Numbers.{Numbered, read_numbered}
-use Rattle.demands.proofs.Refusals.{edit_numbered, BreaksNumbered, play-breaks_numbered, read_breaks_numbered, effective_of_a_play}
+use Rattle.demands.proofs.Refusals.{edit_numbered, BreaksNumbered, play_breaks_numbered, read_breaks_numbered, effective_of_a_play}
 use Rattle.demands.proofs.Files.{scored_plays, plays_are_scored, RulesKept, only_when_kept, when_kept}
 use Rattle.demands.proofs.Exactness.{combo_points_exact, spinner_score_exact, ProductExact, product_exact, SumsFit, sums_fit}
 use Rattle.demands.proofs.DrainFits.{DrainFits, drain_fits}
 use Rattle.demands.proofs.Never10.{Never10, ten_is_gone}
 use Rattle.demands.proofs.BreaksRange.{breaks_of_a_play}
-use Rattle.demands.proofs.Maps.{within_scored, accepted_is_within, within-is_accepted, accepted_gets_none}
+use Rattle.demands.proofs.Maps.{within_scored, accepted_is_within, within_is_accepted, accepted_gets_none}
 use Rattle.demands.proofs.CallsRight.{edit_accepts, calls_right}
 use Rattle.demands.proofs.Boards.{Leads, Touches, build_is_done}
 use Rattle.demands.proofs.Boards as boards
@@ -82,7 +82,7 @@ refused_read_by_a_rule = read_numbered
 
 -- with factors a refusal has a number from 2 to 14 but for 10: of the call on a file, and of a read of any lent memory
 pub refused_play_breaks_by_a_rule : (s : List ℕ) (p : Play) (f : SliderFactors) → BreaksNumbered (with_breaks p f (given_play_of p (scores_of (file_of s))))
-refused_play_breaks_by_a_rule = play-breaks_numbered
+refused_play_breaks_by_a_rule = play_breaks_numbered
 
 pub refused_read_breaks_by_a_rule : (b : List ℕ) (ts : List Float) (n : ℕ) (s : Settings) (br : List Float) (p : Play) (f : SliderFactors)
     → BreaksNumbered (with_breaks p f (given_answer (read_of b ts n s br p)))
@@ -127,9 +127,9 @@ pub effective_misses_in_range : (p : Play) (a : OsuDifficultyAttributes) → Hit
 effective_misses_in_range = effective_of_a_play
 
 -- document 02, §1: on every accepted play each of the two estimates of slider breaks lies from 0 to the play's 100s
-pub slider-breaks_in_range : (s : List ℕ) (p : Play) (f : SliderFactors) (b : BreaksScore)
+pub slider_breaks_in_range : (s : List ℕ) (p : Play) (f : SliderFactors) (b : BreaksScore)
     → with_breaks p f (given_play_of p (scores_of (file_of s))) ≡ breaks.Score b → BreaksInRange b.slider_breaks p.hitresults.n100
-slider-breaks_in_range = breaks_of_a_play
+slider_breaks_in_range = breaks_of_a_play
 
 -- "These products are exact; no cast saturates": for every accepted map and passed count, the Rust's float products and sums are the whole numbers of
 -- the definitions
@@ -180,7 +180,7 @@ pub accepted_maps_are_within : (m : Map) → AcceptedMap m → MapWithin m
 accepted_maps_are_within = accepted_is_within
 
 pub maps_within_are_accepted : (m : Map) → MapWithin m → AcceptedMap m
-maps_within_are_accepted = within-is_accepted
+maps_within_are_accepted = within_is_accepted
 
 -- "after it the board is, entry for entry, and the start table, number for number, that of the map as the list has left it"
 pub left_by_every_list : (s : List ℕ) (b : List ℕ) (ts : List Float) (cs : List Call)
@@ -193,9 +193,9 @@ left_by_every_list = left_by_a_list
 
 -- "An edit .. puts the object there exactly when document 01 accepts the map so changed": `edit_answer` goes by `is_accepted`, which for a changed map is
 -- `AcceptedMap`
-pub changed-map_accepted : (m : Map) → AcceptedMap m → (place : ℕ) (r : List ℕ) (o : Object) → object_in r ≡ good o → is_accepted (changed m place o) ≡ true
+pub changed_map_accepted : (m : Map) → AcceptedMap m → (place : ℕ) (r : List ℕ) (o : Object) → object_in r ≡ good o → is_accepted (changed m place o) ≡ true
     → AcceptedMap (changed m place o)
-changed-map_accepted = edit_accepts
+changed_map_accepted = edit_accepts
 
 pub accepted_map_gets_no_number : (m : Map) → AcceptedMap m → is_accepted m ≡ true
 accepted_map_gets_no_number = accepted_gets_none

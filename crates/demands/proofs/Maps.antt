@@ -31,9 +31,9 @@ within_accepted m w =
     ap gets_none (ap file_of (sym (append-nil (map_file m))) ∙ k.read)
 
 -- ---- the accepted maps are those within the limits
-pub within-is_accepted : (m : Map) → MapWithin m → AcceptedMap m
+pub within_is_accepted : (m : Map) → MapWithin m → AcceptedMap m
 unfolding each
-within-is_accepted m w =
+within_is_accepted m w =
     let k = round_trip m [] w none in record { file = k.file; read = ap file_of (sym (append-nil (map_file m))) ∙ k.read; back = k.map_back }
 
 -- the file of an accepted map gets no number

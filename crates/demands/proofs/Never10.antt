@@ -34,8 +34,8 @@ use Rattle.host.specs.declared.play.HostPlay.{HostPlay}
 use Rattle.host.specs.declared.breaks.HostFactors.{HostFactors}
 use Rattle.host.specs.declared.answer.PlayAnswer.{PlayAnswer}
 use Rattle.heat.specs.Heat.{heat_of}
-use Rattle.heat.proofs.Heats.{HeatNumber, none, of_file, of_counts, heat_numbers, each-play_as_alone}
-use Rattle.demands.proofs.Refusals.{numbered_rule, edit_numbered, BreaksNumbered, scored, numbered, play-breaks_numbered, read_breaks_numbered}
+use Rattle.heat.proofs.Heats.{HeatNumber, none, of_file, of_counts, heat_numbers, each_play_as_alone}
+use Rattle.demands.proofs.Refusals.{numbered_rule, edit_numbered, BreaksNumbered, scored, numbered, play_breaks_numbered, read_breaks_numbered}
 
 -- of each call, on any input and any lent memory: what a host is told, by the definitions of the calls' contracts
 pub record Never10 : Type 0 where
@@ -128,8 +128,8 @@ module _ (s : List ℕ) where
           let a = score_attributes_at sc.map (play_in p).passed_objects in
           given_not_10 (given_score (play_in p) a) (numbered_rule (ruled_given (play_in p) a))
 
-  play-at_not_10 : (i : ℕ) → (listed_answer_of (listed_play_of i x)).status ≢ 10
-  play-at_not_10 i = go x (file_not_10 s)
+  play_at_not_10 : (i : ℕ) → (listed_answer_of (listed_play_of i x)).status ≢ 10
+  play_at_not_10 i = go x (file_not_10 s)
     where
       go : (y : Outcome Scores) → number_in y ≢ 10 → (listed_answer_of (listed_play_of i y)).status ≢ 10
       go (refusal n at) h = h
@@ -138,7 +138,7 @@ module _ (s : List ℕ) where
   outcome_not_10 : (ps : List HostPlay) (os : List PlayAnswer) → (heat_of x ps os).0.status ≡ 0
       → (i : ℕ) (p : HostPlay) (o : PlayAnswer) → i < length ps → (get_or (heat_of x ps os).1 i o).status ≢ 10
   outcome_not_10 ps os done i p o l e =
-      play_not_10 (get_or ps i p) (sym (ap (λ (a : PlayAnswer). a.status) (each-play_as_alone s ps os done i p o l)) ∙ e)
+      play_not_10 (get_or ps i p) (sym (ap (λ (a : PlayAnswer). a.status) (each_play_as_alone s ps os done i p o l)) ∙ e)
 
   build_not_10 : (b : List ℕ) (ts : List Float) → (status_left (built x b ts)).0.status ≢ 10
   unfolding build_of
@@ -158,8 +158,8 @@ ten_is_gone = record {
   simulate = λ s p at. simulated_not_10 (file_of s) p at (ruled_file s);
   score_map = map_not_10;
   score_play = play_not_10;
-  score_play_at = play-at_not_10;
-  score_play_breaks = λ s p f. breaks_not_10 _ (play-breaks_numbered s (play_in p) (factors_in f));
+  score_play_at = play_at_not_10;
+  score_play_breaks = λ s p f. breaks_not_10 _ (play_breaks_numbered s (play_in p) (factors_in f));
   heat = λ s ps os. heat_not_10 (heat_numbers s ps os);
   outcome = outcome_not_10;
   build = build_not_10;

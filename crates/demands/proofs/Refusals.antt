@@ -74,8 +74,8 @@ pub read_breaks_numbered : (b : List ℕ) (ts : List Float) (n : ℕ) (s : Setti
     → BreaksNumbered (with_breaks p f (given_answer (read_of b ts n s br p)))
 read_breaks_numbered b ts n s br p f = numbered_with p f (read_of b ts n s br p) (read_numbered b ts n s br p)
 
-pub play-breaks_numbered : (s : List ℕ) (p : Play) (f : SliderFactors) → BreaksNumbered (with_breaks p f (given_play_of p (scores_of (file_of s))))
-play-breaks_numbered s p f = go (scores_of (file_of s)) refl
+pub play_breaks_numbered : (s : List ℕ) (p : Play) (f : SliderFactors) → BreaksNumbered (with_breaks p f (given_play_of p (scores_of (file_of s))))
+play_breaks_numbered s p f = go (scores_of (file_of s)) refl
   where
     go : (x : Outcome Scores) → scores_of (file_of s) ≡ x → BreaksNumbered (with_breaks p f (given_play_of p x))
     go (refusal n at) e = let r = refusal_rule s n at e in numbered (number_in 14 r (omega arith))

@@ -76,7 +76,7 @@ use Rattle.demands.proofs.Refusals.{BreaksNumbered, scored, numbered}
 use Rattle.demands.proofs.Files.{scored_plays}
 use Rattle.demands.proofs.Boards.{Leads}
 use Rattle.demands.proofs.DrainFits.{DrainFits}
-use Rattle.demands.proofs.Demands.{every_listing_fits, refused_by_a_rule, refused_edit_by_a_rule, refused_read_by_a_rule, refused_play_breaks_by_a_rule, refused_read_breaks_by_a_rule, never_10, accepted_keeps_the_rules, keeping_the_rules_is_accepted, no_number_only_when_the_rules_are_kept, no_number_when_the_rules_are_kept, every_combo_product_is_exact, every_score_combo_product_is_exact, every_sum_fits_its_type, every_drain_fits_its_type, every_half_spin_by_counts, every_spinner_by_counts, values_are_the_definition's, effective_misses_in_range, slider-breaks_in_range, every_list_of_calls, every_spinner_sum_is_exact, accepted_maps_are_within, accepted_map_gets_no_number, every_accepted_map_is_built, maps_within_are_accepted, left_by_every_list, changed-map_accepted, one_edit_leads, edit_touches_only, never_13_edit, never_13_read, never_13_read_breaks}
+use Rattle.demands.proofs.Demands.{every_listing_fits, refused_by_a_rule, refused_edit_by_a_rule, refused_read_by_a_rule, refused_play_breaks_by_a_rule, refused_read_breaks_by_a_rule, never_10, accepted_keeps_the_rules, keeping_the_rules_is_accepted, no_number_only_when_the_rules_are_kept, no_number_when_the_rules_are_kept, every_combo_product_is_exact, every_score_combo_product_is_exact, every_sum_fits_its_type, every_drain_fits_its_type, every_half_spin_by_counts, every_spinner_by_counts, values_are_the_definition's, effective_misses_in_range, slider_breaks_in_range, every_list_of_calls, every_spinner_sum_is_exact, accepted_maps_are_within, accepted_map_gets_no_number, every_accepted_map_is_built, maps_within_are_accepted, left_by_every_list, changed_map_accepted, one_edit_leads, edit_touches_only, never_13_edit, never_13_read, never_13_read_breaks}
 
 -- ---- Demand 1
 -- no listing is cut
@@ -197,7 +197,7 @@ nothing_judged p a w e =
 no_100_no_break : (s : List ℕ) (p : Play) (f : SliderFactors) (b : BreaksScore) → with_breaks p f (given_play_of p (scores_of (file_of s))) ≡ breaks.Score b
     → p.hitresults.n100 ≡ 0 → (le (whole 0) b.slider_breaks.aim ≡ true) × (le b.slider_breaks.aim (whole 0) ≡ true) × (le (whole 0) b.slider_breaks.speed ≡ true) × (le b.slider_breaks.speed (whole 0) ≡ true)
 no_100_no_break s p f b e none =
-    let range = slider-breaks_in_range s p f b e in
+    let range = slider_breaks_in_range s p f b e in
     let most : (x : Float) → le x (whole p.hitresults.n100) ≡ true → le x (whole 0) ≡ true = λ x. subst (λ (n : ℕ). le x (whole n) ≡ true) none in
     (range.aim.above, most _ range.aim.below, range.speed.above, most _ range.speed.below)
 
@@ -271,8 +271,8 @@ accepted_is_scored : (m : Map) → AcceptedMap m → scores_of (file_of (map_fil
 accepted_is_scored m a = keeping_the_rules_is_accepted m (accepted_maps_are_within m a)
 
 -- what an edit goes by is true of every map within the limits
-within-gets_none : (m : Map) → MapWithin m → is_accepted m ≡ true
-within-gets_none m w = accepted_map_gets_no_number m (maps_within_are_accepted m w)
+within_gets_none : (m : Map) → MapWithin m → is_accepted m ≡ true
+within_gets_none m w = accepted_map_gets_no_number m (maps_within_are_accepted m w)
 
 -- every map within the limits has its board
 within_is_built : (m : Map) → MapWithin m → (b : List ℕ) (ts : List Float) → place_words * cap_of (length m.objects) ≤ length b → length m.objects ≤ length ts
@@ -297,7 +297,7 @@ edit_of-built m place o b ts a room starts h a' =
 -- an edit that the claim lets succeed leads to the board of the changed map
 accepted_edit_leads : (m : Map) (place : ℕ) (r : List ℕ) (o : Object) (words : List ℕ) (numbers : List Float) → AcceptedMap m → place < length m.objects
     → object_in r ≡ good o → is_accepted (changed m place o) ≡ true → Leads m place o words numbers
-accepted_edit_leads m place r o words numbers a h e t = one_edit_leads m place o words numbers a h (changed-map_accepted m a place r o e t)
+accepted_edit_leads m place r o words numbers a h e t = one_edit_leads m place o words numbers a h (changed_map_accepted m a place r o e t)
 
 -- behind every list, no call with the arguments of the map that it left gets 13
 no_13_edit : (s : List ℕ) (b : List ℕ) (ts : List Float) (cs : List Call) (place : ℕ) (r : List ℕ)
@@ -338,7 +338,7 @@ read_breaks_in_range s b ts p f x d sized e =
     let m = map_in (file_of s) in
     let call = read_breaks (length m.objects) m.settings (times_of m.breaks) p f in
     let told = ((every_list_of_calls s b ts (call ∷ []) d (tt, tt)).0 refl refl refl sized).as_called in
-    slider-breaks_in_range (map_file m) p f x (breaks-told (sym told ∙ e))
+    slider_breaks_in_range (map_file m) p f x (breaks-told (sym told ∙ e))
   where
     breaks-told : {u v : GivenBreaks} → reads_breaks u ≡ reads_breaks v → u ≡ v
     breaks-told q = cc

@@ -104,9 +104,9 @@ module _ (s : List ℕ) (ps : List HostPlay) (os : List PlayAnswer) where
   refused_file_refuses_the_heat n at e = ap (λ (y : Outcome Scores). heat_status_of (start_of y (length ps) (length os))) e
 
   -- and one that breaks none gets none
-  pub heat-within-is_good : (v : Scores) → x ≡ values v → length ps ≤ 64 → length ps ≤ length os → left.0 ≡ record { status = 0; offset = 0 }
+  pub heat_within_is_good : (v : Scores) → x ≡ values v → length ps ≤ 64 → length ps ≤ length os → left.0 ≡ record { status = 0; offset = 0 }
   unfolding heat_of
-  heat-within-is_good v e few room =
+  heat_within_is_good v e few room =
       ap (λ (y : Outcome Scores). heat_status_of (start_of y (length ps) (length os))) e ∙ simp (le-ltb max_plays (length ps) few, le-ltb (length os) (length ps) room)
 
   -- "15: more than 64 plays, or fewer outcomes than plays", with offset 0
@@ -143,13 +143,13 @@ module _ (s : List ℕ) (ps : List HostPlay) (os : List PlayAnswer) where
         go (start.Refused number offset) k e = absurd (omega (arith, k, e))
 
     -- "for each play what a single call without factors gives, its refusal included": whatever became of the plays before it
-    pub each-play_as_alone : (i : ℕ) (p : HostPlay) (o : PlayAnswer) → i < length ps → get_or left.1 i o ≡ single_of x (get_or ps i p)
-    each-play_as_alone i p o l = ap (λ (l : List PlayAnswer). get_or l i o) left_is ∙ front_at (single_of x) ps (drop (length ps) os) i p o l
+    pub each_play_as_alone : (i : ℕ) (p : HostPlay) (o : PlayAnswer) → i < length ps → get_or left.1 i o ≡ single_of x (get_or ps i p)
+    each_play_as_alone i p o l = ap (λ (l : List PlayAnswer). get_or l i o) left_is ∙ front_at (single_of x) ps (drop (length ps) os) i p o l
 
     -- "with offset 0"
     pub each_outcome_at_zero : (i : ℕ) (p : HostPlay) (o : PlayAnswer) → i < length ps → (get_or left.1 i o).offset ≡ 0
     unfolding heat_of single_of
-    each_outcome_at_zero i p o l = ap (λ (a : PlayAnswer). a.offset) (each-play_as_alone i p o l) ∙ go x refl done
+    each_outcome_at_zero i p o l = ap (λ (a : PlayAnswer). a.offset) (each_play_as_alone i p o l) ∙ go x refl done
       where
         go : (y : Outcome Scores) → x ≡ y → (heat_status_of (start_of y (length ps) (length os))).status ≡ 0 → (single_of y (get_or ps i p)).offset ≡ 0
         go (refusal n at) e d = let r = refusal_rule s n at e in absurd (omega (arith, r.0, d))

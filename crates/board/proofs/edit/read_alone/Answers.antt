@@ -6,7 +6,6 @@ use Rattle.records.specs.Records.{object_of, record_read}
 use Rattle.rules.proofs.Laws.{so}
 use Rattle.board.specs.Edit.{alone_of}
 use Rattle.board.proofs.Alones as alones
-use mathlib.Core.Path.{sym, ap, ◌∙◌}
 use Rattle.board.proofs.edit.read_alone.Goals as goal
 
 pub returns-then-r-eq0 : goal.returns-then-r-eq0

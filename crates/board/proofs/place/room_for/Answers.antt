@@ -6,7 +6,6 @@ use Rattle.tree.specs.Size.{levels_of, cap_of}
 use Rattle.board.specs.Place.{room_of}
 use Rattle.board.specs.declared.place.Room.TheVariants as room
 use Rattle.board.proofs.Rooms as rooms
-use Rattle.tree.specs.Size.{cap_of}
 use Rattle.board.proofs.place.room_for.Goals as goal
 
 pub returns-then-count : goal.returns-then-count

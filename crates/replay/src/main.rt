@@ -59,26 +59,26 @@ impl From<u8> for Kind {
 }
 
 // The kind of the next row, if there is one.
-fn read_kind<R: Read>(reader: &mut R) -> io::Result<Option<Kind>> {
+fn read_kind<R: Read>(reader: &mut R) -> Option<Kind> {
     let mut kind = [0u8; 1];
-    if read_front(reader, &mut kind, 1)? {
-        Ok(Some(Kind::from(kind[0])))
+    if read_front(reader, &mut kind, 1) {
+        Some(Kind::from(kind[0]))
     } else {
-        Ok(None)
+        None
     }
 }
 
 // Reads a length, and then as many bytes to the front of the space. There are none where the row is cut.
-fn read_bytes<'a, R: Read>(reader: &mut R, space: &'a mut [u8]) -> io::Result<Option<&'a [u8]>> {
+fn read_bytes<'a, R: Read>(reader: &mut R, space: &'a mut [u8]) -> Option<&'a [u8]> {
     let mut length = [0u8; 4];
-    if !read_front(reader, &mut length, 4)? {
-        return Ok(None);
+    if !read_front(reader, &mut length, 4) {
+        return None;
     }
     let length = u32::from_le_bytes(length) as usize;
-    if read_front(reader, space, length)? {
-        Ok(Some(&space[..length]))
+    if read_front(reader, space, length) {
+        Some(&space[..length])
     } else {
-        Ok(None)
+        None
     }
 }
 
@@ -116,10 +116,10 @@ fn replay_row<R: Read, W: Write>(
     kind: Kind,
     spaces: &mut Spaces,
 ) -> io::Result<Outcome> {
-    let Some(due) = read_bytes(reader, &mut spaces.due)? else {
+    let Some(due) = read_bytes(reader, &mut spaces.due) else {
         return Ok(Outcome::Cut);
     };
-    let Some(file) = read_bytes(reader, &mut spaces.file)? else {
+    let Some(file) = read_bytes(reader, &mut spaces.file) else {
         return Ok(Outcome::Cut);
     };
     let Listed::Text(count) = list(kind, file, &mut spaces.text) else {
@@ -178,7 +178,7 @@ fn replay_all<R: Read, W: Write>(reader: &mut R, writer: &mut W) -> io::Result<T
     let mut spaces = Spaces::EMPTY;
     let mut tallies = Tallies::default();
     for _ in 0..u64::MAX {
-        let Some(kind) = read_kind(reader)? else {
+        let Some(kind) = read_kind(reader) else {
             break;
         };
         let outcome = replay_row(reader, writer, kind, &mut spaces)?;

@@ -1,7 +1,6 @@
-pub mod Times
+pub mod Steps
 pub mod Rooms
 pub mod Alones
-pub mod Puts
 pub mod Binds
 pub mod Edits
 pub mod Searches

@@ -1,4 +1,5 @@
 -- On any lent memory a refused read has one of document 01's numbers, 2 to 13 but for 10: each check has its own. Assumes nothing.
+use Rattle.rules.specs.declared.refusal.Rule.{Rule}
 use mathlib.Core.Bool.{Bool, true, false, not, cond, ◌&&◌, true≢false}
 use mathlib.Core.List.{List}
 use mathlib.Core.Logic.{◌≢◌}
@@ -9,7 +10,7 @@ use lib.Dec.{eqb, leb}
 use lib.Ieee.{Float, nan}
 use lib.ListN.{get_or}
 use Rattle.numbers.specs.Floats.{whole}
-use Rattle.rules.specs.Refusals.{Checked, good, refused, ◌>>=◌, ◌>>◌, refuse◌when◌, pick}
+use Rattle.rules.specs.Refusals.{Checked, good, refused, ◌>>=◌, ◌>>◌, refuse◌when◌, pick, number_of, COUNT, ROOM, BOARD, BONUS, PLAY_EXCEEDS, RANGE, PLAY_FIELD}
 use Rattle.rules.proofs.Laws.{and_left, and_right}
 use Rattle.play_state.specs.declared.Play.{Play}
 use Rattle.records.specs.declared.beatmap.Settings.{Settings}
@@ -49,7 +50,7 @@ number_is highest n h =
 -- a value, or one of the numbers 2 to 13
 pub data Numbered {A : Type 0} : Checked A → Type 0 where
   value : {a : A} → Numbered (good a)
-  number : {n : ℕ} → Number 13 n → Numbered (refused n)
+  number : {n : Rule} → Number 13 (number_of n) → Numbered (refused n)
 
 pub numbered_bind : {A B : Type 0} (x : Checked A) (f : A → Checked B) → Numbered x → ((a : A) → Numbered (f a)) → Numbered (x >>= f)
 unfolding ◌>>=◌
@@ -61,31 +62,31 @@ unfolding ◌>>◌
 numbered_then (refused n) y (number h) k = number h
 numbered_then (good a) y value k = k
 
-pub numbered_when : (n : ℕ) (b : Bool) → is_number 13 n ≡ true → Numbered (refuse n when b)
+pub numbered_when : (n : Rule) (b : Bool) → is_number 13 (number_of n) ≡ true → Numbered (refuse n when b)
 unfolding refuse◌when◌
-numbered_when n true h = number (number_is 13 n h)
+numbered_when n true h = number (number_is 13 (number_of n) h)
 numbered_when n false h = value
 
 -- ---- what both calls on a board do
 pub room_numbered : (b : List ℕ) (ts : List Float) (n : ℕ) → Numbered (room_for b ts n)
 unfolding room_for
 room_numbered b ts n =
-    numbered_then _ _ (numbered_when 6 _ refl) (numbered_then _ _ (numbered_when 11 _ refl) (numbered_when 11 _ refl))
+    numbered_then _ _ (numbered_when COUNT _ refl) (numbered_then _ _ (numbered_when ROOM _ refl) (numbered_when ROOM _ refl))
 
 limited_numbered : (e : Entry) → Numbered (limited e)
 unfolding limited
-limited_numbered e = numbered_then _ _ (numbered_when 13 _ refl) (numbered_then _ _ (numbered_when 7 _ refl) value)
+limited_numbered e = numbered_then _ _ (numbered_when BOARD _ refl) (numbered_then _ _ (numbered_when BONUS _ refl) value)
 
 pub climbed_numbered : (n : ℕ) (b : List ℕ) (e : ℕ) (v : Entry) → Numbered (climbed n b e v)
 unfolding climbed above_of
 climbed_numbered zero b e v = value
 climbed_numbered (suc n) b e v =
-    numbered_bind _ _ (numbered_then _ _ (numbered_when 13 _ refl) (limited_numbered _)) (λ u. numbered_bind _ _ (climbed_numbered n b (e / 2) u) (λ w. value))
+    numbered_bind _ _ (numbered_then _ _ (numbered_when BOARD _ refl) (limited_numbered _)) (λ u. numbered_bind _ _ (climbed_numbered n b (e / 2) u) (λ w. value))
 
 -- ---- a read
 score_numbered : (p : Play) (a : ScoreAttributes) → Numbered (play_score p a)
 unfolding play_score
-score_numbered p a = numbered_then _ _ (numbered_when 9 _ refl) value
+score_numbered p a = numbered_then _ _ (numbered_when PLAY_EXCEEDS _ refl) value
 
 walked_numbered : (n : ℕ) (b : List ℕ) (x p : ℕ) (a : Entry) → Numbered (walked n b x p a)
 unfolding walked after_of
@@ -94,22 +95,22 @@ walked_numbered (suc n) b x p a = go (leb (2 ^ n) p) (λ u. walked_numbered n b 
   where
     go : (t : Bool) → ((u : Entry) → Numbered (walked n b ((x + 1) * 2) (p - 2 ^ n) u)) → Numbered (walked n b (x * 2) p a)
         → Numbered (cond t (after_of a (entry_at b x) >>= (λ u. walked n b ((x + 1) * 2) (p - 2 ^ n) u)) (walked n b (x * 2) p a))
-    go true taken left = numbered_bind _ _ (numbered_then _ _ (numbered_when 13 _ refl) (limited_numbered _)) taken
+    go true taken left = numbered_bind _ _ (numbered_then _ _ (numbered_when BOARD _ refl) (limited_numbered _)) taken
     go false taken left = left
 
 starts_numbered : (ts : List Float) (n p : ℕ) → Numbered (starts_in ts n p)
 unfolding starts_in
 starts_numbered ts n p = go (eqb n 0)
   where
-    go : (t : Bool) → Numbered {A = Starts} (pick t (good (record { first = whole 0; last = whole 0 })) ((refuse 13 when time_bad (get_or ts 0 nan)) >> ((refuse 13 when time_bad (get_or ts (p - 1) nan)) >> good (record { first = get_or ts 0 nan; last = get_or ts (p - 1) nan }))))
+    go : (t : Bool) → Numbered {A = Starts} (pick t (good (record { first = whole 0; last = whole 0 })) ((refuse BOARD when time_bad (get_or ts 0 nan)) >> ((refuse BOARD when time_bad (get_or ts (p - 1) nan)) >> good (record { first = get_or ts 0 nan; last = get_or ts (p - 1) nan }))))
     go true = value
-    go false = numbered_then _ _ (numbered_when 13 _ refl) (numbered_then _ _ (numbered_when 13 _ refl) value)
+    go false = numbered_then _ _ (numbered_when BOARD _ refl) (numbered_then _ _ (numbered_when BOARD _ refl) value)
 
 pub read_numbered : (b : List ℕ) (ts : List Float) (n : ℕ) (s : Settings) (br : List Float) (p : Play) → Numbered (read_of b ts n s br p)
 unfolding read_of score_from found_of
 read_numbered b ts n s br p =
-    numbered_then _ _ (numbered_when 6 _ refl) (numbered_then _ _ (room_numbered b ts n) (numbered_then _ _ (numbered_when 4 _ refl) (numbered_then _ _ (numbered_when 8 _ refl)
+    numbered_then _ _ (numbered_when COUNT _ refl) (numbered_then _ _ (room_numbered b ts n) (numbered_then _ _ (numbered_when RANGE _ refl) (numbered_then _ _ (numbered_when PLAY_FIELD _ refl)
     (numbered_bind _ _
     (numbered_bind _ _ (walked_numbered (levels_of n + 1) b 1 (min p.passed_objects n) none) (λ sum.
-    numbered_bind _ _ (starts_numbered ts n (min p.passed_objects n)) (λ ends. numbered_then _ _ (numbered_when 13 _ refl) value)))
+    numbered_bind _ _ (starts_numbered ts n (min p.passed_objects n)) (λ ends. numbered_then _ _ (numbered_when BOARD _ refl) value)))
     (λ found. score_numbered p (attributes_from found s br n))))))

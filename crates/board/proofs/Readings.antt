@@ -1,14 +1,14 @@
 -- The steps of a read: each refusal in its turn, then the play on what the search found.
-use Prim.Native.Nat.{ℕ, ◌%◌, ◌≤◌, ◌<◌, min, ◌*◌}
+use Prim.Native.Nat.{ℕ, ◌%◌, ◌≤◌, min, ◌*◌}
 use mathlib.Core.Path.{◌≡◌, refl, ap, ◌∙◌}
 use mathlib.Core.Bool.{Bool, true, false, not, ◌&&◌, ◌||◌}
 use mathlib.Core.List.{List}
-use borrow.Author.Tests.{lt-ltb, le-ltb}
+use borrow.Author.Tests.{le-ltb}
 use lib.Dec.{eqb}
 use lib.Ieee.{Float, binary32, of_bits, le}
 use lib.ListN.{length}
 use Rattle.rules.specs.Limits.{max_breaks}
-use Rattle.rules.specs.Refusals.{good, refused}
+use Rattle.rules.specs.Refusals.{good, refused, COUNT, PLAY_FIELD, RANGE}
 use Rattle.records.specs.declared.beatmap.Settings.{Settings}
 use Rattle.play_state.specs.declared.Play.{Play}
 use Rattle.rules.proofs.Laws.{never}
@@ -23,7 +23,7 @@ use Rattle.board.specs.Place.{room_for}
 use Rattle.board.specs.Search.{found_of}
 use Rattle.board.specs.Read.{setting_bad, settings_bad, times_bad, arguments_bad, attributes_from, score_from, read_of}
 use Rattle.board.specs.declared.search.Found.{Found}
-use Rattle.board.proofs.Binds.{bind_good, bind_refused, then_good, then_refused, when_true, when_false}
+use Rattle.board.proofs.Binds.{bind_good, then_good, when_true, when_false}
 
 setting_in : (x : Float) → setting_bad x ≡ false → SettingIn x
 setting_in x e = both (le (of_bits binary32 0) x) (le x (of_bits binary32 0x41400000)) e
@@ -43,44 +43,28 @@ settings_pass s br e =
     record { hp = setting_in s.hp c.0; od = setting_in s.od c.1; cs = setting_in s.cs b.1 }
 
 module _ (b : List ℕ) (ts : List Float) (n : ℕ) (s : Settings) (br : List Float) (p : Play) where
-  pub not_found : (k : ℕ) → found_of b ts n (min p.passed_objects n) ≡ refused k → score_from b ts n s br p ≡ refused k
-  unfolding score_from
-  not_found k e = bind_refused (found_of b ts n (min p.passed_objects n)) _ k e
-
   pub found : (f : Found) → found_of b ts n (min p.passed_objects n) ≡ good f → score_from b ts n s br p ≡ play_score p (attributes_from f s br n)
   unfolding score_from
   found f e = bind_good (found_of b ts n (min p.passed_objects n)) _ f e
 
-  pub many_breaks : 256 < length br → read_of b ts n s br p ≡ refused 6
-  unfolding read_of
-  many_breaks h = when_true 6 _ _ (lt-ltb (2 * max_breaks) (length br) h)
-
   module _ (few : length br ≤ 2 * max_breaks) where
-    pub no_room : (k : ℕ) → room_for b ts n ≡ refused k → read_of b ts n s br p ≡ refused k
-    unfolding read_of
-    no_room k e = when_false 6 _ _ (le-ltb (2 * max_breaks) (length br) few) ∙ then_refused (room_for b ts n) _ k e
-
     module _ (room : room_for b ts n ≡ good tt) where
-      pub bad_arguments : arguments_bad s br ≡ true → read_of b ts n s br p ≡ refused 4
-      unfolding read_of
-      bad_arguments h = when_false 6 _ _ (le-ltb (2 * max_breaks) (length br) few) ∙ then_good (room_for b ts n) _ tt room ∙ when_true 4 (arguments_bad s br) _ h
-
       module _ (arguments : arguments_bad s br ≡ false) where
-        pub bad_mods : mods_bad p.mods ≡ true → read_of b ts n s br p ≡ refused 8
+        pub bad_mods : mods_bad p.mods ≡ true → read_of b ts n s br p ≡ refused PLAY_FIELD
         unfolding read_of
         bad_mods h =
-            when_false 6 _ _ (le-ltb (2 * max_breaks) (length br) few)
+            when_false COUNT _ _ (le-ltb (2 * max_breaks) (length br) few)
             ∙ then_good (room_for b ts n) _ tt room
-            ∙ when_false 4 (arguments_bad s br) _ arguments
-            ∙ when_true 8 (mods_bad p.mods) _ h
+            ∙ when_false RANGE (arguments_bad s br) _ arguments
+            ∙ when_true PLAY_FIELD (mods_bad p.mods) _ h
 
         pub reads : mods_bad p.mods ≡ false → read_of b ts n s br p ≡ score_from b ts n s br p
         unfolding read_of
         reads h =
-            when_false 6 _ _ (le-ltb (2 * max_breaks) (length br) few)
+            when_false COUNT _ _ (le-ltb (2 * max_breaks) (length br) few)
             ∙ then_good (room_for b ts n) _ tt room
-            ∙ when_false 4 (arguments_bad s br) _ arguments
-            ∙ when_false 8 (mods_bad p.mods) _ h
+            ∙ when_false RANGE (arguments_bad s br) _ arguments
+            ∙ when_false PLAY_FIELD (mods_bad p.mods) _ h
 
 -- ---- the attributes of equal sums
 pub same_attributes : {st st' : State} {c c' : NestedScorePerObject} {m m' : ℕ} → st ≡ st' → c ≡ c' → m ≡ m'

@@ -7,13 +7,10 @@ use Rattle.rules.specs.Refusals.{Checked, good, refused, ◌>>=◌, ◌>>◌, re
 use Rattle.records.specs.Fields.{cut}
 use Rattle.records.specs.Objects.{Object, object_view}
 use Rattle.records.specs.Records.{Content, header, break, object, play, object_of}
-use Rattle.records.specs.declared.record.Record.{Record}
-use Rattle.records.specs.declared.record.Record.TheVariants as record_case
+use Rattle.records.specs.declared.hit_object.HitObject.{HitObject}
 use Rattle.entries.specs.Entry.{entry_of}
 use Rattle.tree.specs.Size.{levels_of, cap_of}
 use Rattle.board.specs.Place.{room_for, put_place}
-use Rattle.board.specs.declared.edit.Alone.{Alone}
-use Rattle.board.specs.declared.edit.Alone.TheVariants as alone
 
 -- the record of an object holds no other content
 abbrev pub object_only : Content → Checked Object
@@ -34,15 +31,9 @@ object_in r = do
   good o
 
 -- what the code keeps of it
-abbrev pub alone_of : Checked Object → Alone
-alone_of (refused n) = alone.Refused n
-alone_of (good o) = alone.Is (object_view o)
-
-abbrev pub only_of : Record → Alone
-only_of (record_case.Header s) = alone.Refused MARK
-only_of (record_case.Break b) = alone.Refused MARK
-only_of (record_case.Object o) = alone.Is o
-only_of (record_case.Play p) = alone.Refused MARK
+abbrev pub alone_of : Checked Object → Checked HitObject
+alone_of (refused n) = refused n
+alone_of (good o) = good (object_view o)
 
 -- "12: an edited place is not below the object count"
 unfoldable pub edit_of : List ℕ → List Float → ℕ → ℕ → List ℕ → Checked (List ℕ × List Float)

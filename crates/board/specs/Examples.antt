@@ -1,18 +1,17 @@
 -- Document 01, "What a caller gets" and "The board", computed: an edit's record, and edits and reads on lent memory that no build made: which of two
 -- faults is told, what is read, and each limit of an entry at its edge.
-use Rattle.std.specs.Prelude.{ℕ, ◌+◌, ◌-◌, ◌*◌, ◌≡◌, refl, List, [], ◌∷◌, ◌++◌, map, take, set, replicate, Float}
+use Rattle.std.specs.Prelude.{ℕ, ◌+◌, ◌-◌, ◌*◌, ◌≡◌, refl, List, [], ◌∷◌, ◌++◌, map, take, set, replicate, Float, Some}
 use Rattle.std.specs.Float.{binary32, binary64}
 use Rattle.std.specs.Float.Ieee.{of_bits, of_int, round, to_unsigned, mul, div, le, lt, eq, neg}
 use Rattle.numbers.specs.Words.{word_at, bytes_of}
 use Rattle.spinner.specs.HalfSpins.{total_half_spins, required_half_spins}
 use Rattle.spinner.specs.Bonus.{half_spin_points as turned, legacy_of, standardised_of}
-use Rattle.rules.specs.Refusals.{Checked, refused, good, ◌>>=◌, ◌>>◌, refuse◌when◌}
+use Rattle.rules.specs.Refusals.{Checked, refused, good, number_of, ◌>>=◌, ◌>>◌, refuse◌when◌}
 use Rattle.records.specs.Objects.{repeats, ticks}
 use Rattle.play_state.specs.Play.{flags_bad}
 use Rattle.records.specs.Records.{circle_of, nested_of, slider_of, spinner_of, object_of}
 use Rattle.records.specs.declared.beatmap.Settings.{Settings}
 use Rattle.play_state.specs.declared.OsuScoreOrigin.TheVariants.{Stable}
-use Rattle.play_state.specs.declared.LegacyTotalScore.TheVariants.{Present}
 use Rattle.play_state.specs.declared.Play.{Play}
 use Rattle.simulator.specs.Nested.{spinner_score_of}
 use Rattle.simulator.specs.Attributes.{difficulty_attributes_of, score_attributes_of}
@@ -31,7 +30,7 @@ use Rattle.board.specs.Read.{settings_bad, times_bad, arguments_bad, attributes_
 
 -- the number of a call, and 0 for one that passes
 abbrev number : {A : Type 0} → Checked A → ℕ
-number (refused n) = n
+number (refused n) = number_of n
 number (good a) = 0
 
 -- ---- an edit's record. A float is given by its bits
@@ -190,7 +189,7 @@ modded passed n300 flags rate = record {
   max_combo = 0;
   hitresults = record { n300 = n300; n100 = 0; n50 = 0; misses = 0; large_tick_hits = 0; small_tick_hits = 0; slider_end_hits = 0 };
   origin = Stable;
-  legacy_total_score = Present 0;
+  legacy_total_score = Some 0;
   mods = record { flags = flags; clock_rate = of_bits binary64 rate };
 }
 

@@ -2,17 +2,11 @@
 use Rattle.std.specs.Prelude.{ℕ, ◌+◌, ◌*◌, ◌≤◌, ◌≡◌, List, ltb, Float, length, set}
 use Rattle.rules.specs.Limits.{max_objects}
 use Rattle.entries.specs.Entry.{place_words}
-use Rattle.rules.specs.Refusals.{Checked, good, refused, ◌>>=◌, ◌>>◌, refuse◌when◌, COUNT, ROOM}
+use Rattle.rules.specs.Refusals.{Checked, good, refused, ◌>>=◌, ◌>>◌, refuse◌when◌, COUNT, ROOM, OrRefusal, refusal_at}
 use Rattle.entries.specs.declared.entry.Entry.{Entry}
 use Rattle.tree.specs.Size.{levels_of, cap_of}
 use Rattle.tree.specs.Put.{climbed}
 use Rattle.tree.specs.declared.size.Size.{Size}
-use Rattle.tree.specs.declared.put.Put.{Put}
-use Rattle.tree.specs.declared.put.Put.TheVariants as put
-use Rattle.board.specs.declared.place.Room.{Room}
-use Rattle.board.specs.declared.place.Room.TheVariants as room
-use Rattle.board.specs.declared.place.Written.{Written}
-use Rattle.board.specs.declared.place.Written.TheVariants as written
 
 -- "6: .. an 8,193rd object"; "11: the board has fewer than 26 × C words, or the start table fewer numbers than objects"
 unfoldable pub room_for : List ℕ → List Float → ℕ → Checked (Unit {0})
@@ -21,9 +15,9 @@ room_for b ts n = do
   refuse ROOM when ltb (length b) (place_words * cap_of n)
   refuse ROOM when ltb (length ts) n
 
-abbrev pub room_of : ℕ → Checked (Unit {0}) → Room
-room_of n (refused k) = room.Refused k
-room_of n (good _) = room.Is (record { levels = levels_of n; cap = cap_of n })
+abbrev pub room_of : ℕ → Checked (Unit {0}) → Checked Size
+room_of n (refused k) = refused k
+room_of n (good _) = good (record { levels = levels_of n; cap = cap_of n })
 
 -- the size for n objects, with room for them in both slices
 pub record Holds (size : Size) (n : ℕ) (b : List ℕ) (ts : List Float) : Type 0 where
@@ -40,15 +34,11 @@ put_place size place v start b ts = do
   good (written, set ts place start)
 
 -- ---- the answers and what both slices hold at last: "a refused call .. leaves all lent memory untouched"
-abbrev pub put_left : Checked (List ℕ × List Float) → List ℕ → List Float → Put × List ℕ × List Float
-put_left (refused n) b ts = (put.Refused n, b, ts)
-put_left (good w) b ts = (put.Done, w.0, w.1)
+abbrev pub put_left : Checked (List ℕ × List Float) → List ℕ → List Float → Checked (Unit {0}) × List ℕ × List Float
+put_left (refused n) b ts = (refused n, b, ts)
+put_left (good w) b ts = (good tt, w.0, w.1)
 
 -- the offset "is 0 .. for all refusals of calls that take no file; in an edit the lent object record starts at 0"
-abbrev pub written_of : Put → Written
-written_of put.Done = written.Done
-written_of (put.Refused n) = written.Refused n 0
-
-abbrev pub written_left : Checked (List ℕ × List Float) → List ℕ → List Float → Written × List ℕ × List Float
-written_left (refused n) b ts = (written.Refused n 0, b, ts)
-written_left (good w) b ts = (written.Done, w.0, w.1)
+abbrev pub written_left : Checked (List ℕ × List Float) → List ℕ → List Float → OrRefusal (Unit {0}) × List ℕ × List Float
+written_left (refused n) b ts = (refused (refusal_at n 0), b, ts)
+written_left (good w) b ts = (good tt, w.0, w.1)

@@ -3,18 +3,14 @@
 use Rattle.std.specs.Prelude.{ℕ, ◌+◌, ◌-◌, Bool, not, List, eqb, Float, get_or}
 use Rattle.std.specs.Float.{nan}
 use Rattle.numbers.specs.Floats.{whole}
-use Rattle.rules.specs.Refusals.{Checked, good, refused, ◌>>=◌, ◌>>◌, refuse◌when◌, pick, BOARD}
+use Rattle.rules.specs.Refusals.{Checked, good, ◌>>=◌, ◌>>◌, refuse◌when◌, pick, BOARD}
 use Rattle.records.specs.Fields.{is_time}
 use Rattle.entries.specs.Entry.{none}
 use Rattle.entries.specs.Scores.{unsound}
 use Rattle.tree.specs.Size.{levels_of}
 use Rattle.tree.specs.First.{walked}
 use Rattle.board.specs.declared.search.Starts.{Starts}
-use Rattle.board.specs.declared.search.StartsFound.{StartsFound}
-use Rattle.board.specs.declared.search.StartsFound.TheVariants as starts
 use Rattle.board.specs.declared.search.Found.{Found}
-use Rattle.board.specs.declared.search.Search.{Search}
-use Rattle.board.specs.declared.search.Search.TheVariants as search
 
 -- "Times are milliseconds from -8,000,000 to 8,000,000"
 abbrev pub time_bad : Float → Bool
@@ -35,12 +31,3 @@ found_of b ts n p = do
   ends ← starts_in ts n p
   refuse BOARD when unsound sum
   good (record { sum = sum; starts = ends })
-
--- ---- the answers, case by case
-abbrev pub starts_found : Checked Starts → StartsFound
-starts_found (refused n) = starts.Bad
-starts_found (good s) = starts.Are s
-
-abbrev pub search_of : Checked Found → Search
-search_of (refused n) = search.Refused n
-search_of (good f) = search.Found f

@@ -1,93 +1,54 @@
 // Another object at a place of a map.
 ghost use Rattle.std.specs.Prelude.{◌≡◌};
-ghost use Rattle.board.specs.Place.{written_of, written_left};
-ghost use Rattle.board.specs.Edit.{only_of, object_in, alone_of, edit_of};
+ghost use Rattle.board.specs.Place.{written_left};
+ghost use Rattle.board.specs.Edit.{object_in, alone_of, edit_of};
 
-use crate::place::{Room, Written, put_at, room_for};
+use crate::place::{put_at, room_for};
 use entries::entry::Entry;
 use numbers::words::word_at;
 use records::hit_object::HitObject;
 use records::object_record::read_object;
-use records::record::{Read, Record};
-use rules::refusal;
-use tree::put::Put;
-
-// The object of a record that stands alone, or the number of what is wrong with it.
-#[derive(Clone, Copy)]
-pub enum Alone {
-    Is(HitObject),
-    Refused(u8),
-}
-
-fn object_only(item: Record) -> Alone
-    ensures { result ≡ only_of item }
-{
-    match item {
-        Record::Object(object) => Alone::Is(object),
-        Record::Header(_) => Alone::Refused(refusal::MARK),
-        Record::Break(_) => Alone::Refused(refusal::MARK),
-        Record::Play(_) => Alone::Refused(refusal::MARK),
-    }
-}
+use records::record::Record;
+use rules::refusal::{Refusal, Rule};
 
 // One object's record and nothing behind it.
-pub fn read_alone(r: &[u8]) -> Alone
+#[tactic(auto, using(crate::proofs::Steps::steps), unfolding(crate::specs::Edit::object_in))]
+pub fn read_alone(r: &[u8]) -> Result<HitObject, Rule>
     ensures { result ≡ alone_of (object_in r.now) }
 {
     if r.len() == 0 {
-        return Alone::Refused(refusal::MARK);
+        return Err(Rule::Mark);
     }
     if r.len() < 2 {
-        return Alone::Refused(refusal::CUT);
+        return Err(Rule::Cut);
     }
-    match read_object(r, word_at(r, 0, 2)) {
-        Read::Refused(number) => Alone::Refused(number),
-        Read::Good(item, size) => {
-            if size < r.len() {
-                return Alone::Refused(refusal::MARK);
-            }
-            object_only(item)
-        }
+    let (record, size) = read_object(r, word_at(r, 0, 2))?;
+    let Record::Object(object) = record else {
+        return Err(Rule::Mark);
+    };
+    if size < r.len() {
+        return Err(Rule::Mark);
     }
-}
-
-fn written(put: Put) -> Written
-    ensures { result ≡ written_of put }
-{
-    match put {
-        Put::Done => Written::Done,
-        Put::Refused(number) => Written::Refused { number, offset: 0 },
-    }
+    Ok(object)
 }
 
 // Puts the object of a record at a place of a board for `count` objects.
+#[tactic(auto, using(crate::proofs::Steps::steps), unfolding(crate::specs::Edit::edit_of))]
 pub fn edit(
     board: &mut [u64],
     starts: &mut [f64],
     count: usize,
     place: usize,
     bytes: &[u8],
-) -> Written
+) -> Result<(), Refusal>
     ensures { (result, board.new, starts.new) ≡ written_left (edit_of board.old starts.old count place bytes.now) board.old starts.old }
 {
-    match room_for(board, starts, count) {
-        Room::Refused(number) => Written::Refused { number, offset: 0 },
-        Room::Is(size) => {
-            if count <= place {
-                let number = refusal::PLACE;
-                return Written::Refused { number, offset: 0 };
-            }
-            match read_alone(bytes) {
-                Alone::Refused(number) => Written::Refused { number, offset: 0 },
-                Alone::Is(object) => written(put_at(
-                    board,
-                    starts,
-                    size,
-                    place,
-                    Entry::own(object),
-                    object.start_time,
-                )),
-            }
-        }
+    let size = room_for(board, starts, count)?;
+    if count <= place {
+        return Err(Rule::Place.at(0));
     }
+    let object = read_alone(bytes)?;
+    let start = object.start_time;
+    put_at(board, starts, size, place, Entry::own(object), start)?;
+    Ok(())
 }

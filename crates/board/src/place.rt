@@ -5,42 +5,31 @@ ghost use Rattle.board.specs.Place.{room_for, room_of, put_place, put_left};
 
 use entries::entry::Entry;
 use records::hit_object::HitObject;
-use rules::refusal;
-use tree::put::{Put, quick_climb};
+use rules::refusal::Rule;
+use tree::put::quick_climb;
 use tree::size::{Size, size_of};
 
-// What a build or an edit answers.
-#[derive(Clone, Copy)]
-pub enum Written {
-    Done,
-    Refused { number: u8, offset: usize },
-}
-
-// The size of the board, or the number of what is wrong.
-#[derive(Clone, Copy)]
-pub enum Room {
-    Is(Size),
-    Refused(u8),
-}
-
-pub fn room_for(board: &[u64], starts: &[f64], count: usize) -> Room
+// The size of a board for so many objects, where both slices have room for it.
+#[tactic(auto, using(crate::proofs::Steps::steps), unfolding(crate::specs::Place::room_for))]
+pub fn room_for(board: &[u64], starts: &[f64], count: usize) -> Result<Size, Rule>
     ensures { result ≡ room_of count (room_for board.now starts.now count) }
 {
     if (HitObject::MAX_COUNT as usize) < count {
-        return Room::Refused(refusal::COUNT);
+        return Err(Rule::Count);
     }
     let size = size_of(count);
     if board.len() < Entry::PLACE_WORDS * size.cap {
-        return Room::Refused(refusal::ROOM);
+        return Err(Rule::Room);
     }
     let numbers = starts.len();
     if numbers < count {
-        return Room::Refused(refusal::ROOM);
+        return Err(Rule::Room);
     }
-    Room::Is(size)
+    Ok(size)
 }
 
 // Puts an entry within the limits, with what follows from it above, and a start. Nothing is written before the last check.
+#[tactic(auto, using(crate::proofs::Steps::steps), unfolding(crate::specs::Place::put_place))]
 pub fn put_at(
     board: &mut [u64],
     starts: &mut [f64],
@@ -48,15 +37,11 @@ pub fn put_at(
     place: usize,
     entry: Entry,
     start: f64,
-) -> Put
+) -> Result<(), Rule>
     requires { (place < size.cap) × (place_words * size.cap ≤ length board.old) × (place < length starts.old) × (in_limits entry ≡ true) }
     ensures { (result, board.new, starts.new) ≡ put_left (put_place size place entry start board.old starts.old) board.old starts.old }
 {
-    match quick_climb(board, size.levels, size.cap + place, entry) {
-        Put::Refused(number) => Put::Refused(number),
-        Put::Done => {
-            starts[place] = start;
-            Put::Done
-        }
-    }
+    quick_climb(board, size.levels, size.cap + place, entry)?;
+    starts[place] = start;
+    Ok(())
 }

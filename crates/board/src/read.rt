@@ -5,19 +5,19 @@ ghost use Rattle.rules.specs.Limits.{max_breaks};
 ghost use Rattle.entries.specs.Entry.{in_limits};
 ghost use Rattle.entries.specs.Scores.{unsound};
 ghost use Rattle.ruleset.specs.Stars.{SettingsIn};
-ghost use Rattle.play_score.specs.PlayRules.{given_answer};
+ghost use Rattle.rules.specs.Refusals.{at_0};
 ghost use Rattle.board.specs.Place.{Holds};
 ghost use Rattle.board.specs.Read.{settings_bad, times_bad, arguments_bad, drain_from, attributes_from, score_from, read_of};
 
-use crate::place::{Room, room_for};
-use crate::search::{Found, Search, Starts, find};
+use crate::place::room_for;
+use crate::search::{Found, Starts, find};
 use entries::values::{counts_in, state_in};
 use numbers::naturals::least;
-use play_score::{GivenPlay, given, has_bad_mods, score_on};
+use play_score::{PlayScore, has_bad_mods, score_on};
 use play_state::Play;
 use records::beatmap::{BreakPeriod, Settings};
 use records::fields::{is_setting, is_time};
-use rules::refusal;
+use rules::refusal::{Refusal, Rule};
 use ruleset::score_multiplier::{break_len, drain_len, score_multiplier};
 use simulator::attributes::{ScoreAttributes, score_attributes};
 use tree::size::Size;
@@ -25,44 +25,28 @@ use tree::size::Size;
 // A start and an end for each break.
 const MAX_BREAK_TIMES: usize = 2 * BreakPeriod::MAX_COUNT as usize;
 
+#[tactic(auto, using(crate::proofs::Steps::steps), unfolding(crate::specs::Read::settings_bad))]
 fn has_bad_settings(settings: Settings) -> bool
     ensures { result ≡ settings_bad settings }
 {
-    if !is_setting(settings.hp) {
-        return true;
-    }
-    if !is_setting(settings.od) {
-        return true;
-    }
-    !is_setting(settings.cs)
+    !is_setting(settings.hp) || !is_setting(settings.od) || !is_setting(settings.cs)
 }
 
 fn has_bad_times(times: &[f64]) -> bool
     ensures { result ≡ times_bad times.now }
 {
-    let mut i = 0;
-    while i < times.len() {
-        if !is_time(times[i]) {
-            return true;
-        }
-        i += 1;
-    }
-    false
+    times.iter().any(|time| !is_time(*time))
 }
 
 // Settings and breaks are given as they stand in the map; a break without its end is cut.
+#[tactic(auto, using(crate::proofs::Steps::steps), unfolding(crate::specs::Read::arguments_bad))]
 fn has_bad_arguments(settings: Settings, breaks: &[f64]) -> bool
     ensures { result ≡ arguments_bad settings breaks.now }
 {
-    if has_bad_settings(settings) {
-        return true;
-    }
-    if has_bad_times(breaks) {
-        return true;
-    }
-    breaks.len() % 2 == 1
+    has_bad_settings(settings) || has_bad_times(breaks) || breaks.len() % 2 == 1
 }
 
+#[tactic(auto, using(crate::proofs::Steps::steps), unfolding(crate::specs::Read::drain_from))]
 fn drain_from(starts: Starts, breaks: &[f64], count: usize) -> i64
     requires { length breaks.now ≤ 2 * max_breaks }
     ensures { (result ≡ drain_from starts breaks.now count) × (mag result < 2 ^ 53) }
@@ -92,6 +76,7 @@ fn attributes_from(
 }
 
 // The search, then the play on what it found.
+#[tactic(auto, using(crate::proofs::Steps::steps), unfolding(crate::specs::Read::score_from))]
 fn read_in(
     board: &[u64],
     starts: &[f64],
@@ -100,21 +85,17 @@ fn read_in(
     settings: Settings,
     breaks: &[f64],
     play: Play,
-) -> GivenPlay
+) -> Result<PlayScore, Rule>
     requires { Holds size count board.now starts.now × (length breaks.now ≤ 2 * max_breaks) × SettingsIn settings }
-    ensures { result ≡ given_answer (score_from board.now starts.now count settings breaks.now play) }
+    ensures { result ≡ score_from board.now starts.now count settings breaks.now play }
 {
     let p = least(play.passed_objects as u64, count as u64) as usize;
-    match find(board, starts, size, count, p) {
-        Search::Refused(number) => GivenPlay::Refused { number, offset: 0 },
-        Search::Found(found) => given(score_on(
-            play,
-            attributes_from(found, settings, breaks, count),
-        )),
-    }
+    let found = find(board, starts, size, count, p)?;
+    score_on(play, attributes_from(found, settings, breaks, count))
 }
 
 // A play on the first objects of a board for `count` objects.
+#[tactic(auto, using(crate::proofs::Steps::steps), unfolding(crate::specs::Read::read_of))]
 pub fn read(
     board: &[u64],
     starts: &[f64],
@@ -122,33 +103,20 @@ pub fn read(
     settings: Settings,
     breaks: &[f64],
     play: Play,
-) -> GivenPlay
-    ensures value { result ≡ given_answer (read_of board.now starts.now count settings breaks.now play) }
+) -> Result<PlayScore, Refusal>
+    ensures value { result ≡ at_0 (read_of board.now starts.now count settings breaks.now play) }
     ensures unchanged { (board.exit.now ≡ board.entry.now) × (starts.exit.now ≡ starts.entry.now) × (breaks.exit.now ≡ breaks.entry.now) }
 {
     if MAX_BREAK_TIMES < breaks.len() {
-        return GivenPlay::Refused {
-            number: refusal::COUNT,
-            offset: 0,
-        };
+        return Err(Rule::Count.at(0));
     }
-    match room_for(board, starts, count) {
-        Room::Refused(number) => GivenPlay::Refused { number, offset: 0 },
-        Room::Is(size) => {
-            if has_bad_arguments(settings, breaks) {
-                return GivenPlay::Refused {
-                    number: refusal::RANGE,
-                    offset: 0,
-                };
-            }
-            let mods = play.mods;
-            if has_bad_mods(mods) {
-                return GivenPlay::Refused {
-                    number: refusal::PLAY_FIELD,
-                    offset: 0,
-                };
-            }
-            read_in(board, starts, size, count, settings, breaks, play)
-        }
+    let size = room_for(board, starts, count)?;
+    if has_bad_arguments(settings, breaks) {
+        return Err(Rule::Range.at(0));
     }
+    let mods = play.mods;
+    if has_bad_mods(mods) {
+        return Err(Rule::PlayField.at(0));
+    }
+    Ok(read_in(board, starts, size, count, settings, breaks, play)?)
 }

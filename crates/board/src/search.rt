@@ -1,13 +1,12 @@
 // What a read finds of the first places: their entries combined, and the starts that the drain leans on.
 ghost use Rattle.std.specs.Prelude.{◌≡◌, ◌-◌, ◌≤◌, length};
 ghost use Rattle.board.specs.Place.{Holds};
-ghost use Rattle.board.specs.Search.{starts_in, starts_found, found_of, search_of};
+ghost use Rattle.board.specs.Search.{starts_in, found_of};
 
 use entries::entry::Entry;
 use entries::values::is_unsound;
 use records::fields::is_time;
-use rules::refusal;
-use tree::combine::Combined;
+use rules::refusal::Rule;
 use tree::first::quick_sum_of_first;
 use tree::size::Size;
 
@@ -19,21 +18,9 @@ pub struct Starts {
 }
 
 #[derive(Clone, Copy)]
-pub enum StartsFound {
-    Are(Starts),
-    Bad,
-}
-
-#[derive(Clone, Copy)]
 pub struct Found {
     pub sum: Entry,
     pub starts: Starts,
-}
-
-#[derive(Clone, Copy)]
-pub enum Search {
-    Found(Found),
-    Refused(u8),
 }
 
 // The place of the last object that counts, which is the first where none is passed.
@@ -44,12 +31,13 @@ fn last_place(p: usize) -> usize
 }
 
 // For p of `count` places.
-fn find_starts(starts: &[f64], count: usize, p: usize) -> StartsFound
+#[tactic(auto, using(crate::proofs::Steps::steps), unfolding(crate::specs::Search::starts_in))]
+fn find_starts(starts: &[f64], count: usize, p: usize) -> Result<Starts, Rule>
     requires { (p ≤ count) × (count ≤ length starts.now) }
-    ensures { result ≡ starts_found (starts_in starts.now count p) }
+    ensures { result ≡ starts_in starts.now count p }
 {
     if count == 0 {
-        return StartsFound::Are(Starts {
+        return Ok(Starts {
             first: 0.0,
             last: 0.0,
         });
@@ -57,29 +45,30 @@ fn find_starts(starts: &[f64], count: usize, p: usize) -> StartsFound
     let first = starts[0];
     let last = starts[last_place(p)];
     if !is_time(first) {
-        return StartsFound::Bad;
+        return Err(Rule::Board);
     }
     if !is_time(last) {
-        return StartsFound::Bad;
+        return Err(Rule::Board);
     }
-    StartsFound::Are(Starts { first, last })
+    Ok(Starts { first, last })
 }
 
 // The first p of `count` places.
-pub fn find(board: &[u64], starts: &[f64], size: Size, count: usize, p: usize) -> Search
+#[tactic(auto, using(crate::proofs::Steps::steps), unfolding(crate::specs::Search::found_of))]
+pub fn find(
+    board: &[u64],
+    starts: &[f64],
+    size: Size,
+    count: usize,
+    p: usize,
+) -> Result<Found, Rule>
     requires { Holds size count board.now starts.now × (p ≤ count) }
-    ensures { result ≡ search_of (found_of board.now starts.now count p) }
+    ensures { result ≡ found_of board.now starts.now count p }
 {
-    match quick_sum_of_first(board, size, p) {
-        Combined::Refused(number) => Search::Refused(number),
-        Combined::Is(sum) => {
-            let StartsFound::Are(found) = find_starts(starts, count, p) else {
-                return Search::Refused(refusal::BOARD);
-            };
-            if is_unsound(sum) {
-                return Search::Refused(refusal::BOARD);
-            }
-            Search::Found(Found { sum, starts: found })
-        }
+    let sum = quick_sum_of_first(board, size, p)?;
+    let starts = find_starts(starts, count, p)?;
+    if is_unsound(sum) {
+        return Err(Rule::Board);
     }
+    Ok(Found { sum, starts })
 }

@@ -7,17 +7,17 @@ use native.Mathlib.Omega.{arith}
 use lib.Ieee.{Float}
 use lib.ListN.{length, drop}
 use lib.Pow.{pow_pos}
+use Rattle.rules.specs.declared.refusal.Rule.{Rule}
 use Rattle.rules.specs.Limits.{max_objects}
 use Rattle.encoding.specs.Limits.{MapWithin}
 use Rattle.records.specs.Objects.{Object}
 use Rattle.map_file.specs.File.{Map as MapData, file_of}
-use Rattle.rules.specs.Refusals.{Checked, good, refused, ◌>>◌}
+use Rattle.rules.specs.Refusals.{Checked, good, refused, ◌>>◌, refusal_at}
 use Rattle.simulator.specs.declared.attributes.ScoreAttributes.{ScoreAttributes}
 use Rattle.map_reader.specs.Map.{MapIs}
 use Rattle.map_reader.specs.declared.map.Map.{Map}
 use Rattle.scoring.specs.Scores.{Outcome, values, Scores, scores_of}
-use Rattle.scoring.specs.View.{PlaysOf, good as good_file, refuses}
-use Rattle.scoring.specs.declared.plays.Plays.TheVariants as plays
+use Rattle.scoring.specs.View.{PlaysOf, are}
 use Rattle.scoring.proofs.Answers.{NoNumber, no_number, values_within}
 use Rattle.entries.specs.Entry.{entry_of, in_limits, place_words}
 use Rattle.entries.proofs.Accepted.{entry_within}
@@ -30,8 +30,6 @@ use Rattle.tree.proofs.BuildRight.{laid-length, fills, build_right}
 use Rattle.board.specs.Place.{room_for, room_of, Holds, written_left}
 use Rattle.board_build.specs.Build.{build_of, built}
 use Rattle.board_build.specs.Laying.{Lays, objects_of, objects_laid}
-use Rattle.board.specs.declared.place.Room.TheVariants as room
-use Rattle.board.specs.declared.place.Written.TheVariants as written
 use Rattle.board.proofs.Rooms as rooms
 
 -- as many passed objects as u64 holds: all of a map
@@ -55,15 +53,11 @@ record FileGood (s : List ℕ) (m : Map) : Type 0 where
   map : MapIs s every_object m
   same : scores.map ≡ map.file.map
 
-file_good : {s : List ℕ} {m : Map} {a : ScoreAttributes} → PlaysOf s every_object (plays.Good m a) → FileGood s m
-file_good (good_file k x e same attributes) = record { scores = x; is = e; map = k; same = same }
+file_good : {s : List ℕ} {m : Map} {a : ScoreAttributes} → PlaysOf s every_object (good (m, a)) → FileGood s m
+file_good (are k x e same attributes) = record { scores = x; is = e; map = k; same = same }
 
 module _ (s : List ℕ) (b : List ℕ) (ts : List Float) where
-  -- a file's refusal stands
-  pub file_refused : {n at : ℕ} → PlaysOf s every_object (plays.Refused n at) → (written.Refused n at, b, ts) ≡ built (scores_of (file_of s)) b ts
-  file_refused (refuses e) = sym (ap (λ (x : Outcome Scores). built x b ts) e)
-
-  module _ {m : Map} {a : ScoreAttributes} (e : PlaysOf s every_object (plays.Good m a)) where
+  module _ {m : Map} {a : ScoreAttributes} (e : PlaysOf s every_object (good (m, a))) where
     abbrev k : FileGood s m
     k = file_good e
 
@@ -82,17 +76,17 @@ module _ (s : List ℕ) (b : List ℕ) (ts : List Float) where
         sym (ap (λ (x : Checked (List ℕ × List Float)). written_left x b ts) q) ∙ sym (ap (λ (x : Outcome Scores). built x b ts) k.is)
 
     -- no room
-    pub no_room : (n : ℕ) → room.Refused n ≡ room_of m.objects (room_for b ts m.objects)
-        → (written.Refused n 0, b, ts) ≡ built (scores_of (file_of s)) b ts
+    pub no_room : (n : Rule) → refused n ≡ room_of m.objects (room_for b ts m.objects)
+        → (refused (refusal_at n 0), b, ts) ≡ built (scores_of (file_of s)) b ts
     unfolding build_of ◌>>◌
     no_room n q =
-        let there = subst (λ (m : ℕ). room.Refused n ≡ room_of m (room_for b ts m)) count_is q in
+        let there = subst (λ (m : ℕ). refused n ≡ room_of m (room_for b ts m)) count_is q in
         let stopped : build_of os b ts ≡ refused n = rw (rooms.told_refused b ts (length os) n there) in
         on_objects stopped
 
-    module _ (size : Size) (q : room.Is size ≡ room_of m.objects (room_for b ts m.objects)) where
-      there : room.Is size ≡ room_of (length os) (room_for b ts (length os))
-      there = subst (λ (n : ℕ). room.Is size ≡ room_of n (room_for b ts n)) count_is q
+    module _ (size : Size) (q : good size ≡ room_of m.objects (room_for b ts m.objects)) where
+      there : good size ≡ room_of (length os) (room_for b ts (length os))
+      there = subst (λ (n : ℕ). good size ≡ room_of n (room_for b ts n)) count_is q
 
       holds : Holds size (length os) b ts
       holds = (rooms.told_is b ts (length os) size there).1
@@ -144,7 +138,7 @@ module _ (s : List ℕ) (b : List ℕ) (ts : List Float) where
 
         -- the board and the start table
         pub build_done : (b'' : List ℕ) → b'' ≡ filled size.cap m.objects b'
-            → (written.Done, b'', ts') ≡ built (scores_of (file_of s)) b ts
+            → ((good tt), b'', ts') ≡ built (scores_of (file_of s)) b ts
         unfolding build_of ◌>>◌
         build_done b'' v =
             let board = v ∙ filled_at os b fits holds.few holds.words holds.cap count_is words_are in

@@ -14,16 +14,12 @@ use Rattle.rules.specs.Refusals.{good}
 use Rattle.rules.proofs.All.{All, all_out}
 use Rattle.records.specs.Objects.{Object, kind_view, object_view}
 use Rattle.records.specs.Records.{object, FoundRecord, object_of, record_read}
-use Rattle.records.specs.declared.record.Record.{Record}
 use Rattle.records.specs.declared.record.Record.TheVariants as record_case
-use Rattle.records.specs.declared.record.Read.{Read}
-use Rattle.records.specs.declared.record.Read.TheVariants as read
 use Rattle.map_file.specs.File.{Map as MapData, file_of}
 use Rattle.map_file.proofs.Sizes.{Sized, object_sized}
 use Rattle.map_reader.specs.Objects.{objects_at, stepped, ran_of}
 use Rattle.map_reader.specs.Map.{objects_from, NextIs}
 use Rattle.map_reader.specs.declared.objects.Objects.{Objects}
-use Rattle.map_reader.specs.declared.objects.Ran.TheVariants as ran
 use Rattle.map_reader.specs.declared.map.Map.{Map}
 use Rattle.play_reader.proofs.Playing.{map_same}
 use Rattle.simulator.proofs.Few.{FewIn, object_few}
@@ -59,18 +55,12 @@ begun_snoc (x ∷ os) o (t ∷ ts) h = ap (λ (l : List Float). x.start ∷ l) (
 both : {b b' : List ℕ} {ts ts' : List Float} → b ≡ b' → ts ≡ ts' → ◌≡◌ {A = List ℕ × List Float} (b, ts) (b', ts')
 both p q = λ i. (p i, q i)
 
--- ---- one record
--- what was read is laid as its record is
-pub item_laid : (cap place : ℕ) (b : List ℕ) (ts : List Float) {x : Read} {item : Record} {n : ℕ} → x ≡ read.Good item n → {b' : List ℕ} {ts' : List Float}
-    → (b', ts') ≡ record_laid cap place item b ts → (n, b', ts') ≡ read_laid cap place x b ts
-item_laid cap place b ts {n = n} e q = (λ i. (n, (q i).0, (q i).1)) ∙ ap (λ (x : Read). read_laid cap place x b ts) (sym e)
-
 -- ---- what the loop keeps: both slices with what the first `place` objects have laid, and the state behind these
 pub record SoFar (s : List ℕ) (m : Map) (cap : ℕ) (b₀ : List ℕ) (ts₀ : List Float) (at place : ℕ) (b : List ℕ) (ts : List Float) : Type 0 where
   pub lays : Lays cap s m b₀ ts₀
   pub low : place ≤ m.objects
   pub x : Objects
-  pub here : ran.To x ≡ ran_of true place s (objects_at (objects_from m.breaks))
+  pub here : good x ≡ ran_of true place s (objects_at (objects_from m.breaks))
   pub at_is : at ≡ x.at
   pub words : b ≡ laid cap (take place lays.map.file.map.objects) b₀
   pub starts : ts ≡ begun (take place lays.map.file.map.objects) ts₀
@@ -106,7 +96,7 @@ module _ {s : List ℕ} {m : Map} {cap : ℕ} {b₀ : List ℕ} {ts₀ : List Fl
     next = h.map.nexts place (let c = count in omega (arith, c, lt))
 
     state_is : next.x ≡ k.x
-    state_is = let e : ran.To next.x ≡ ran.To k.x = next.here ∙ sym k.here in cc
+    state_is = let e : good next.x ≡ good k.x = next.here ∙ sym k.here in cc
 
     at_next : at ≡ next.x.at
     at_next = k.at_is ∙ ap (λ (z : Objects). z.at) (sym state_is)

@@ -2,14 +2,12 @@
 -- table; "Lent numbers beyond 26 × C words or the object count stay".
 use Rattle.std.specs.Prelude.{ℕ, ◌*◌, List, ◌++◌, Float, length, drop}
 use Rattle.entries.specs.Entry.{place_words}
-use Rattle.rules.specs.Refusals.{Checked, good, ◌>>◌}
+use Rattle.rules.specs.Refusals.{Checked, good, ◌>>◌, OrRefusal, refused, refusal_at}
 use Rattle.records.specs.Objects.{Object}
 use Rattle.scoring.specs.Scores.{Outcome, refusal, values, Scores}
 use Rattle.tree.specs.Size.{cap_of}
 use Rattle.tree.specs.Board.{board_of, starts_of}
 use Rattle.board.specs.Place.{room_for, written_left}
-use Rattle.board.specs.declared.place.Written.{Written}
-use Rattle.board.specs.declared.place.Written.TheVariants as written
 
 -- objects on any words and starts
 unfoldable pub build_of : List Object → List ℕ → List Float → Checked (List ℕ × List Float)
@@ -18,6 +16,6 @@ build_of os b ts = do
   good (board_of os ++ drop (place_words * cap_of (length os)) b, starts_of os ++ drop (length os) ts)
 
 -- a file that is refused, its plays' refusals included, keeps its number and offset
-abbrev pub built : Outcome Scores → List ℕ → List Float → Written × List ℕ × List Float
-built (refusal n at) b ts = (written.Refused n at, b, ts)
+abbrev pub built : Outcome Scores → List ℕ → List Float → OrRefusal (Unit {0}) × List ℕ × List Float
+built (refusal n at) b ts = (refused (refusal_at n at), b, ts)
 built (values s) b ts = written_left (build_of s.map.objects b ts) b ts

@@ -1,12 +1,11 @@
 -- A build's pass over a map file: each object's own entry and its start are laid at its place.
+use Rattle.rules.specs.Refusals.{Checked, good, refused}
 use Rattle.std.specs.Prelude.{ℕ, ◌+◌, ◌*◌, ◌≤◌, ◌<◌, ◌≡◌, List, ◌++◌, Float, length, drop, set}
 use Rattle.rules.specs.Limits.{max_nested}
 use Rattle.records.specs.Objects.{Object}
 use Rattle.map_file.specs.File.{File, Result, accepted, refused_at, file_of}
 use Rattle.records.specs.declared.record.Record.{Record}
 use Rattle.records.specs.declared.record.Record.TheVariants as record_case
-use Rattle.records.specs.declared.record.Read.{Read}
-use Rattle.records.specs.declared.record.Read.TheVariants as read
 use Rattle.map_reader.specs.Map.{MapIs}
 use Rattle.map_reader.specs.declared.map.Map.{Map}
 use Rattle.simulator.specs.Limits.{nested_count}
@@ -30,13 +29,13 @@ record_laid cap place (record_case.Object o) b ts = (put_entry b (cap + place) (
 record_laid cap place (record_case.Play p) b ts = (b, ts)
 
 -- what an object lays as it was read, and its size
-abbrev pub LaysRead : ℕ → ℕ → Read → List ℕ → List Float → Type 0
-LaysRead cap place (read.Refused n) b ts = Unit
-LaysRead cap place (read.Good item n) b ts = LaysRecord cap place item b ts
+abbrev pub LaysRead : ℕ → ℕ → Checked (Record × ℕ) → List ℕ → List Float → Type 0
+LaysRead cap place (refused n) b ts = Unit
+LaysRead cap place (good f) b ts = LaysRecord cap place f.0 b ts
 
-abbrev pub read_laid : ℕ → ℕ → Read → List ℕ → List Float → ℕ × List ℕ × List Float
-read_laid cap place (read.Refused n) b ts = (0, b, ts)
-read_laid cap place (read.Good item n) b ts = let after = record_laid cap place item b ts in (n, after.0, after.1)
+abbrev pub read_laid : ℕ → ℕ → Checked (Record × ℕ) → List ℕ → List Float → ℕ × List ℕ × List Float
+read_laid cap place (refused n) b ts = (0, b, ts)
+read_laid cap place (good f) b ts = let after = record_laid cap place f.0 b ts in (f.1, after.0, after.1)
 
 -- an accepted file, the map that stands in it, and room for its objects
 pub record Lays (cap : ℕ) (s : List ℕ) (m : Map) (b : List ℕ) (ts : List Float) : Type 0 where

@@ -8,14 +8,15 @@ ghost use Rattle.scoring.specs.Scores.{scores_of};
 ghost use Rattle.board_build.specs.Build.{built};
 ghost use Rattle.board_build.specs.Laying.{LaysRecord, record_laid, LaysRead, read_laid, Lays, objects_laid};
 
-use board::place::{Room, Written, room_for};
+use board::place::room_for;
 use entries::entry::Entry;
 use entries::words::store;
 use map_reader::map::{Map, objects_from};
 use numbers::words::word_at;
 use records::record::{Read, Record};
 use records::{hit_object, object_record};
-use scoring::plays::{Plays, check_plays};
+use rules::refusal::Refusal;
+use scoring::plays::check_plays;
 use tree::build::fill;
 
 // An object's own entry and its start at its place; other records have neither.
@@ -28,9 +29,7 @@ fn lay_record(board: &mut [u64], starts: &mut [f64], cap: usize, place: usize, i
             store(board, cap + place, Entry::own(object));
             starts[place] = object.start_time;
         }
-        Record::Header(_) => {}
-        Record::Break(_) => {}
-        Record::Play(_) => {}
+        Record::Header(_) | Record::Break(_) | Record::Play(_) => {}
     }
 }
 
@@ -40,8 +39,8 @@ fn lay_read(found: Read, board: &mut [u64], starts: &mut [f64], cap: usize, plac
     ensures { (result, board.new, starts.new) ≡ read_laid cap place found board.old starts.old }
 {
     match found {
-        Read::Refused(_) => 0,
-        Read::Good(item, size) => {
+        Err(_) => 0,
+        Ok((item, size)) => {
             lay_record(board, starts, cap, place, item);
             size
         }
@@ -50,6 +49,7 @@ fn lay_read(found: Read, board: &mut [u64], starts: &mut [f64], cap: usize, plac
 
 // Lays the object that r starts with, and gives its size. The file is accepted: order, counts and bonus are checked. Each kind has its reading and
 // its laying in one piece.
+#[tactic(auto, unfolding(records::specs::Records::object_of))]
 fn lay_object(
     r: &[u8],
     mark: u64,
@@ -79,30 +79,20 @@ fn lay(file: &[u8], map: Map, board: &mut [u64], starts: &mut [f64], cap: usize)
     ensures { (board.new, starts.new) ≡ objects_laid cap (file_of file.now) board.old starts.old }
 {
     let mut at = objects_from(map.breaks);
-    let mut place = 0;
-    while place < map.objects as usize {
+    for place in 0..map.objects as usize {
         let r = &file[at..];
         at += lay_object(r, word_at(r, 0, 2), board, starts, cap, place);
-        place += 1;
     }
 }
 
 // Checks a map file, its plays included, and writes its board and start table. A second pass writes, so that a refused file changes nothing.
-pub fn build(file: &[u8], board: &mut [u64], starts: &mut [f64]) -> Written
+pub fn build(file: &[u8], board: &mut [u64], starts: &mut [f64]) -> Result<(), Refusal>
     ensures { (result, board.new, starts.new) ≡ built (scores_of (file_of file.now)) board.old starts.old }
 {
-    match check_plays(file, u64::MAX) {
-        Plays::Refused { number, offset } => Written::Refused { number, offset },
-        Plays::Good(map, _) => {
-            let count = map.objects as usize;
-            match room_for(board, starts, count) {
-                Room::Refused(number) => Written::Refused { number, offset: 0 },
-                Room::Is(size) => {
-                    lay(file, map, board, starts, size.cap);
-                    fill(board, size.cap, count);
-                    Written::Done
-                }
-            }
-        }
-    }
+    let (map, _) = check_plays(file, u64::MAX)?;
+    let count = map.objects as usize;
+    let size = room_for(board, starts, count)?;
+    lay(file, map, board, starts, size.cap);
+    fill(board, size.cap, count);
+    Ok(())
 }

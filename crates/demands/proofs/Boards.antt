@@ -13,7 +13,8 @@ use lib.Ieee.{Float, nan}
 use lib.ListN.{length, drop, get_or, set, length-append}
 use lib.Seq.{get_or-set_other}
 use Rattle.numbers.specs.Words.{word_at}
-use Rattle.rules.specs.Refusals.{Checked, good, refused, ◌>>=◌, ◌>>◌, refuse◌when◌}
+use Rattle.rules.specs.Refusals.{Checked, good, refused, ◌>>=◌, ◌>>◌, refuse◌when◌, OrRefusal, refusal_at, at_0, number_of, CUT, MARK, BONUS, PLACE, BOARD}
+use Rattle.rules.specs.declared.refusal.Refusal.{Refusal}
 use Rattle.rules.proofs.Laws.{never}
 use Rattle.play_state.specs.declared.Play.{Play}
 use Rattle.records.specs.Objects.{Object, Kind, circle, slider, spinner}
@@ -24,12 +25,10 @@ use Rattle.encoding.specs.Limits.{Each, one, ObjectWithin, MapWithin}
 use Rattle.encoding.proofs.FieldBytes.{fields_length}
 use Rattle.encoding.proofs.RoundTrip.{object_back}
 use Rattle.simulator.specs.Attributes.{score_attributes_at}
-use Rattle.play_score.specs.PlayRules.{given_answer, given_score}
+use Rattle.play_score.specs.PlayRules.{given_score}
 use Rattle.play_score.specs.declared.PlayScore.{PlayScore}
-use Rattle.play_score.specs.declared.GivenPlay.TheVariants as given
 use Rattle.slider_breaks.specs.Given.{with_breaks}
 use Rattle.slider_breaks.specs.declared.calculator.SliderFactors.{SliderFactors}
-use Rattle.slider_breaks.specs.Given as breaks
 use Rattle.slider_breaks.proofs.Laws.{other_number}
 use Rattle.scoring.specs.Scores.{Outcome, Scores, scores_of}
 use Rattle.scoring.proofs.Rules.{Ruled, fine, rule, ruled_bind, ruled_when, ruled_object, ruled_given, two, three}
@@ -42,8 +41,6 @@ use Rattle.tree.proofs.Touched.{OthersKept, only_covering, few_cover}
 use Rattle.board.specs.Place.{room_for, put_place, written_left}
 use Rattle.board.specs.Edit.{object_only, object_in, edit_of}
 use Rattle.board.specs.Read.{read_of}
-use Rattle.board.specs.declared.place.Written.{Written}
-use Rattle.board.specs.declared.place.Written.TheVariants as written
 use Rattle.board.proofs.Binds.{bound, passed}
 use Rattle.board.proofs.Rooms as rooms
 use Rattle.board_build.specs.Build.{build_of, built}
@@ -81,7 +78,7 @@ object_at_lem (x ∷ os) (suc place) o h (one w ws) = object_at_lem os place o (
 
 -- "between two accepted maps that differ in one place one edit leads": the edit with that object's own record
 pub record Leads (m : Map) (place : ℕ) (o : Object) (words : List ℕ) (numbers : List Float) : Type 0 where
-  pub done : answer (edit (length m.objects) place (object_bytes o)) (lent_for m words numbers) ≡ edits written.Done
+  pub done : answer (edit (length m.objects) place (object_bytes o)) (lent_for m words numbers) ≡ edits (good tt)
   pub there : lent_after (edit (length m.objects) place (object_bytes o)) (lent_for m words numbers) ≡ lent_for (changed m place o) words numbers
 
 pub one_edit_leads : (m : Map) (place : ℕ) (o : Object) (words : List ℕ) (numbers : List Float) → AcceptedMap m → place < length m.objects
@@ -93,18 +90,18 @@ one_edit_leads m place o words numbers a h a' = record { done = ap (λ (z : Z). 
     w' = accepted_is_within (changed m place o) a'
 
     Z : Type 0
-    Z = Written × List ℕ × List Float
+    Z = OrRefusal (Unit {0}) × List ℕ × List Float
 
-    left : Written → Map → Z
+    left : OrRefusal (Unit {0}) → Map → Z
     left a x = (a, board_of x.objects ++ words, starts_of x.objects ++ numbers)
 
     right : written_left (edit_of (lent_for m words numbers).board (lent_for m words numbers).starts (length m.objects) place (object_bytes o)) (lent_for m words numbers).board (lent_for m words numbers).starts
-        ≡ left written.Done (changed m place o)
+        ≡ left (good tt) (changed m place o)
     right =
         edit_right m (accepted_is_within m a) words numbers place (object_bytes o)
-        ∙ ap₂ (λ (t : Bool) (x : Checked Object). left (cond t (record_answer m place x) (written.Refused 12 0)) (cond t (put_if_accepted m place x) m))
+        ∙ ap₂ (λ (t : Bool) (x : Checked Object). left (cond t (record_answer m place x) (refused (refusal_at PLACE 0))) (cond t (put_if_accepted m place x) m))
         (lt-ltb place (length m.objects) h) (own_record o (object_at_lem m.objects place o h w'.objects))
-        ∙ ap (λ (a : Bool). left (cond a written.Done (written.Refused 7 0)) (cond a (changed m place o) m)) (within_accepted (changed m place o) w')
+        ∙ ap (λ (a : Bool). left (cond a (good tt) (refused (refusal_at BONUS 0))) (cond a (changed m place o) m)) (within_accepted (changed m place o) w')
 
 -- ---- "an edit changes only the entries that cover its place, at most 14, and its start": on any lent content
 pub record Touches (n place : ℕ) (b : List ℕ) (ts : List Float) (written : List ℕ × List Float) : Type 0 where
@@ -118,7 +115,7 @@ unfolding edit_of put_place ◌>>◌
 edit_touches_only b ts n place r w e = go (room_for b ts n) refl e
   where
     rest : Checked (List ℕ × List Float)
-    rest = (refuse 12 when leb n place) >> (object_in r >>= (λ o.
+    rest = (refuse PLACE when leb n place) >> (object_in r >>= (λ o.
         climbed (levels_of n) b (cap_of n + place) (entry_of (o ∷ [])) >>= (λ l. good (l, set ts place o.start))))
 
     by : Checked (List ℕ × List Float) → List ℕ × List Float → List ℕ × List Float
@@ -129,7 +126,7 @@ edit_touches_only b ts n place r w e = go (room_for b ts n) refl e
     go (refused k) q e = never (cc)
     go (good u) q e =
         let m = rooms.measured b ts n u q in
-        let c = passed 12 (leb n place) (object_in r >>= (λ o. climbed (levels_of n) b (cap_of n + place) (entry_of (o ∷ [])) >>= (λ l. good (l, set ts place o.start)))) w e in
+        let c = passed PLACE (leb n place) (object_in r >>= (λ o. climbed (levels_of n) b (cap_of n + place) (entry_of (o ∷ [])) >>= (λ l. good (l, set ts place o.start)))) w e in
         let d = bound (object_in r) (λ o. climbed (levels_of n) b (cap_of n + place) (entry_of (o ∷ [])) >>= (λ l. good (l, set ts place o.start))) w c.1 in
         let f = bound (climbed (levels_of n) b (cap_of n + place) (entry_of (d.value ∷ []))) (λ l. good (l, set ts place d.value.start)) w d.second in
         let same : (f.value, set ts place d.value.start) ≡ w = ap (λ (x : Checked (List ℕ × List Float)). by x w) f.second in
@@ -148,8 +145,8 @@ edit_touches_only b ts n place r w e = go (room_for b ts n) refl e
 pub record_ruled : (r : List ℕ) → Ruled (object_in r)
 unfolding object_in
 record_ruled r =
-    ruled_when 3 _ _ three (ruled_when 2 _ _ two (ruled_bind (object_of r (word_at r 0 2)) _ (ruled_object r (word_at r 0 2)) (λ f.
-    ruled_bind (object_only f.0) _ (only f.0) (λ o. ruled_when 3 _ _ three fine))))
+    ruled_when MARK _ _ three (ruled_when CUT _ _ two (ruled_bind (object_of r (word_at r 0 2)) _ (ruled_object r (word_at r 0 2)) (λ f.
+    ruled_bind (object_only f.0) _ (only f.0) (λ o. ruled_when MARK _ _ three fine))))
   where
     only : (c : Content) → Ruled (object_only c)
     only (header s) = rule three
@@ -157,41 +154,44 @@ record_ruled r =
     only (object o) = fine
     only (play p) = rule three
 
+abbrev told : Refusal → ℕ
+told r = number_of r.rule
+
 pub never_13_edit : (m : Map) (words : List ℕ) (numbers : List Float) (place : ℕ) (r : List ℕ) → AcceptedMap m
-    → answer (edit (length m.objects) place r) (lent_for m words numbers) ≢ edits (written.Refused 13 0)
+    → answer (edit (length m.objects) place r) (lent_for m words numbers) ≢ edits (refused (refusal_at BOARD 0))
 unfolding answer
 never_13_edit m words numbers place r a e =
-    go (ltb place (length m.objects)) (object_in r) (record_ruled r) (sym (ap (λ (z : Written × List ℕ × List Float). edits z.0) (edit_right m (accepted_is_within m a) words numbers place r)) ∙ e)
+    go (ltb place (length m.objects)) (object_in r) (record_ruled r) (sym (ap (λ (z : OrRefusal (Unit {0}) × List ℕ × List Float). edits z.0) (edit_right m (accepted_is_within m a) words numbers place r)) ∙ e)
   where
-    accepts : (t : Bool) → edits (cond t written.Done (written.Refused 7 0)) ≢ edits (written.Refused 13 0)
+    accepts : (t : Bool) → edits (cond t (good tt) (refused (refusal_at BONUS 0))) ≢ edits (refused (refusal_at BOARD 0))
     accepts true h = never (cc)
-    accepts false h = let k : ◌≡◌ {A = ℕ} 7 13 = cc in absurd (omega (arith, k))
+    accepts false h = let k : refusal_at BONUS 0 ≡ refusal_at BOARD 0 = cc in absurd (omega (arith, ap told k))
 
-    go : (t : Bool) (x : Checked Object) → Ruled x → edits (cond t (record_answer m place x) (written.Refused 12 0)) ≢ edits (written.Refused 13 0)
-    go false x k h = let s : ◌≡◌ {A = ℕ} 12 13 = cc in absurd (omega (arith, s))
-    go true (refused n) (rule is) h = let s : n ≡ 13 = cc in absurd (omega (arith, s, is.1))
+    go : (t : Bool) (x : Checked Object) → Ruled x → edits (cond t (record_answer m place x) (refused (refusal_at PLACE 0))) ≢ edits (refused (refusal_at BOARD 0))
+    go false x k h = let s : refusal_at PLACE 0 ≡ refusal_at BOARD 0 = cc in absurd (omega (arith, ap told s))
+    go true (refused n) (rule is) h = let s : refusal_at n 0 ≡ refusal_at BOARD 0 = cc in absurd (omega (arith, ap told s, is.1))
     go true (good o) k h = accepts (is_accepted (changed m place o)) h
 
 pub never_13_read : (m : Map) (words : List ℕ) (numbers : List Float) (p : Play) → AcceptedMap m
-    → answer (read (length m.objects) m.settings (times_of m.breaks) p) (lent_for m words numbers) ≢ reads (given.Refused 13 0)
+    → answer (read (length m.objects) m.settings (times_of m.breaks) p) (lent_for m words numbers) ≢ reads (refused (refusal_at BOARD 0))
 unfolding answer
 never_13_read m words numbers p a e =
     go (given_score p (score_attributes_at m p.passed_objects)) (ruled_given p (score_attributes_at m p.passed_objects))
-    (sym (ap (λ (x : Checked PlayScore). reads (given_answer x)) (read_right m words numbers p (accepted_is_within m a))) ∙ e)
+    (sym (ap (λ (x : Checked PlayScore). reads (at_0 x)) (read_right m words numbers p (accepted_is_within m a))) ∙ e)
   where
-    go : (x : Checked PlayScore) → Ruled x → reads (given_answer x) ≢ reads (given.Refused 13 0)
-    go (refused n) (rule is) h = let s : n ≡ 13 = cc in absurd (omega (arith, s, is.1))
+    go : (x : Checked PlayScore) → Ruled x → reads (at_0 x) ≢ reads (refused (refusal_at BOARD 0))
+    go (refused n) (rule is) h = let s : refusal_at n 0 ≡ refusal_at BOARD 0 = cc in absurd (omega (arith, ap told s, is.1))
     go (good s) k h = never (cc)
 
 -- nor does one with factors, which add 14 alone
 pub never_13_read_breaks : (m : Map) (words : List ℕ) (numbers : List Float) (p : Play) (f : SliderFactors) → AcceptedMap m
-    → answer (read_breaks (length m.objects) m.settings (times_of m.breaks) p f) (lent_for m words numbers) ≢ reads_breaks (breaks.Refused 13 0)
+    → answer (read_breaks (length m.objects) m.settings (times_of m.breaks) p f) (lent_for m words numbers) ≢ reads_breaks (refused (refusal_at BOARD 0))
 unfolding answer
 never_13_read_breaks m words numbers p f a e =
     let l = lent_for m words numbers in
-    let Read-of = given_answer (read_of l.board l.starts (length m.objects) m.settings (times_of m.breaks) p) in
-    let refused-with : with_breaks p f Read-of ≡ breaks.Refused 13 0 = cc in
-    never_13_read m words numbers p a (ap reads (other_number p f Read-of 13 0 (λ k. omega (arith, k)) refused-with))
+    let Read-of = at_0 (read_of l.board l.starts (length m.objects) m.settings (times_of m.breaks) p) in
+    let refused-with : with_breaks p f Read-of ≡ refused (refusal_at BOARD 0) = cc in
+    never_13_read m words numbers p a (ap reads (other_number p f Read-of BOARD 0 (λ k. omega (arith, ap number_of k)) refused-with))
 
 -- ---- a build of an accepted map
 -- an accepted map, with room for it, is built: the call is done and leaves the map's board and start table, with what lies beyond them as it
@@ -199,7 +199,7 @@ never_13_read_breaks m words numbers p f a e =
 pub build_is_done : (m : Map) → AcceptedMap m → (b : List ℕ) (ts : List Float) → place_words * cap_of (length m.objects) ≤ length b
     → length m.objects ≤ length ts
     → built (scores_of (file_of (map_file m))) b ts
-    ≡ (written.Done, board_of m.objects ++ drop (place_words * cap_of (length m.objects)) b, starts_of m.objects ++ drop (length m.objects) ts)
+    ≡ (good tt, board_of m.objects ++ drop (place_words * cap_of (length m.objects)) b, starts_of m.objects ++ drop (length m.objects) ts)
 unfolding build_of ◌>>◌
 build_is_done m a b ts words numbers =
     let n = length m.objects in

@@ -9,7 +9,7 @@ use borrow.Author.Tests.{ltb-false}
 use lib.Dec.{ltb}
 use lib.ListN.{length, take, length-take}
 use Rattle.rules.specs.Limits.{max_objects}
-use Rattle.rules.specs.Refusals.{Checked, good, refused, ◌>>◌, refuse◌when◌, PLAY_FIELD, PLAY_EXCEEDS}
+use Rattle.rules.specs.Refusals.{Checked, good, refused, ◌>>◌, refuse◌when◌, PLAY_FIELD, PLAY_EXCEEDS, at_0}
 use Rattle.rules.proofs.Laws.{never}
 use Rattle.play_state.specs.declared.Play.{Play}
 use Rattle.records.specs.Objects.{Object, Kind, circle, slider, spinner}
@@ -26,12 +26,10 @@ use Rattle.simulator.proofs.Few.{count_is}
 use Rattle.simulator.proofs.Sums.{walk-gain}
 use Rattle.miss_calc.specs.Counts.{total_hits}
 use Rattle.estimates.specs.Effective.{estimates_of}
-use Rattle.play_score.specs.PlayRules.{mods_bad, hits_exceed, exceeds, play_score, given_answer, given_score}
+use Rattle.play_score.specs.PlayRules.{mods_bad, hits_exceed, exceeds, play_score, given_score}
 use Rattle.play_score.specs.declared.PlayScore.{PlayScore}
-use Rattle.play_score.specs.declared.GivenPlay.TheVariants as given
 use Rattle.slider_breaks.specs.Given.{BreaksScore, factors_bad, breaks_score, with_breaks}
 use Rattle.slider_breaks.specs.declared.calculator.SliderFactors.{SliderFactors}
-use Rattle.slider_breaks.specs.Given as breaks
 use Rattle.slider_breaks.proofs.Laws.{Values, values_of}
 use Rattle.slider_breaks.proofs.Range.{BreaksInRange, breaks_range}
 use Rattle.scoring.specs.Scores.{Outcome, refusal, values, Scores, scores_of, given_play_of}
@@ -109,7 +107,7 @@ module _ (m : Map) (w : MapWithin m) (p : Play) where
       (λ (some : 1 ≤ p.hitresults.n100). omega (arith, some, judged, no-less-combo)) (omega (arith, most)) range.0 range.1 good-factors)
 
 -- of a play that is given with factors beside a file
-pub breaks_of_a_play : (s : List ℕ) (p : Play) (f : SliderFactors) (b : BreaksScore) → with_breaks p f (given_play_of p (scores_of (file_of s))) ≡ breaks.Score b
+pub breaks_of_a_play : (s : List ℕ) (p : Play) (f : SliderFactors) (b : BreaksScore) → with_breaks p f (given_play_of p (scores_of (file_of s))) ≡ good b
     → BreaksInRange b.slider_breaks p.hitresults.n100
 breaks_of_a_play s p f b e = go (scores_of (file_of s)) refl v.score
   where
@@ -117,7 +115,7 @@ breaks_of_a_play s p f b e = go (scores_of (file_of s)) refl v.score
     v = values_of p f (given_play_of p (scores_of (file_of s))) b e
 
     in_range : (sc : Scores) → scores_of (file_of s) ≡ values sc → (x : Checked PlayScore) → given_score p (score_attributes_at sc.map p.passed_objects) ≡ x
-        → given_answer x ≡ given.Score b.score → BreaksInRange b.slider_breaks p.hitresults.n100
+        → at_0 x ≡ good b.score → BreaksInRange b.slider_breaks p.hitresults.n100
     in_range sc q (refused n) h k = never (cc)
     in_range sc q (good t) h k =
         let same : t ≡ b.score = cc in
@@ -125,6 +123,6 @@ breaks_of_a_play s p f b e = go (scores_of (file_of s)) refl v.score
         (subst (λ (z : PlayScore). BreaksInRange (breaks_score p f z).slider_breaks p.hitresults.n100) same
         (scored_range sc.map (values_within s sc q) p f t v.factors h))
 
-    go : (x : Outcome Scores) → scores_of (file_of s) ≡ x → given_play_of p x ≡ given.Score b.score → BreaksInRange b.slider_breaks p.hitresults.n100
+    go : (x : Outcome Scores) → scores_of (file_of s) ≡ x → given_play_of p x ≡ good b.score → BreaksInRange b.slider_breaks p.hitresults.n100
     go (refusal n at) q k = never (cc)
     go (values sc) q k = in_range sc q _ refl k

@@ -10,7 +10,7 @@ use lib.Dec.{ltb}
 use lib.Ieee.{Float}
 use lib.ListN.{length, drop, set}
 use Rattle.rules.specs.Limits.{max_bonus}
-use Rattle.rules.specs.Refusals.{Checked, good, refused, ◌>>◌}
+use Rattle.rules.specs.Refusals.{Checked, good, refused, ◌>>◌, OrRefusal, at_0}
 use Rattle.rules.proofs.Laws.{never}
 use Rattle.play_state.specs.declared.Play.{Play}
 use Rattle.records.specs.Objects.{Object, bonus}
@@ -19,9 +19,8 @@ use Rattle.map_file.specs.File.{Map, file_of}
 use Rattle.encoding.specs.Encoding.{map_file, play_bytes}
 use Rattle.encoding.specs.Limits.{ObjectWithin, MapWithin, PlaySized}
 use Rattle.simulator.specs.Attributes.{score_attributes_at}
-use Rattle.play_score.specs.PlayRules.{given_answer, given_score}
+use Rattle.play_score.specs.PlayRules.{given_score}
 use Rattle.play_score.specs.declared.PlayScore.{PlayScore}
-use Rattle.play_score.specs.declared.GivenPlay.{GivenPlay}
 use Rattle.slider_breaks.specs.Given.{with_breaks}
 use Rattle.slider_breaks.specs.declared.calculator.SliderFactors.{SliderFactors}
 use Rattle.scoring.specs.Scores.{Outcome, refusal, values, at_offset, then, Scores, scores_of, given_play_of}
@@ -32,8 +31,6 @@ use Rattle.tree.specs.Size.{cap_of}
 use Rattle.tree.specs.Board.{board_of, starts_of}
 use Rattle.board.specs.Place.{room_for, written_left}
 use Rattle.board.specs.Edit.{object_in, edit_of}
-use Rattle.board.specs.declared.place.Written.{Written}
-use Rattle.board.specs.declared.place.Written.TheVariants as written
 use Rattle.board.proofs.Edits as edits
 use Rattle.board_build.specs.Build.{build_of, built}
 use Rattle.demands.specs.Calls.{is_accepted, AcceptedMap, changed, times_of, map_in, Lent, lent_for, Call, edit, read, read_breaks, edits as answered, reads, reads_breaks, answer, lent_after, put_if_accepted, map_after, from_file, ReadAnswer, ReadBreaksAnswer, IsRefused, Stands, MayStand, Answers, Right, lent_by, Claim}
@@ -76,12 +73,12 @@ refused_keeps (good z) l h = absurd h
 
 -- ---- a play behind the map in its file is the play on the map
 from_file_lem : (m : Map) (at : ℕ) (x : Checked PlayScore)
-    → from_file (then (at_offset at x) (λ s. values (record { map = m; plays = s ∷ [] }))) ≡ given_answer x
+    → from_file (then (at_offset at x) (λ s. values (record { map = m; plays = s ∷ [] }))) ≡ at_0 x
 from_file_lem m at (refused n) = refl
 from_file_lem m at (good s) = refl
 
 in_file : (m : Map) → MapWithin m → (p : Play) → PlaySized p
-    → from_file (scores_of (file_of (map_file m ++ play_bytes p))) ≡ given_answer (given_score p (score_attributes_at m p.passed_objects))
+    → from_file (scores_of (file_of (map_file m ++ play_bytes p))) ≡ at_0 (given_score p (score_attributes_at m p.passed_objects))
 in_file m w p v = ap from_file (behind-map m p w v) ∙ from_file_lem m (length (map_file m)) (given_score p (score_attributes_at m p.passed_objects))
 
 -- what holds of a read with the map's count, settings and breaks
@@ -103,7 +100,7 @@ module _ (words : List ℕ) (numbers : List Float) where
       → ReadAnswer m p (answer (read (length m.objects) m.settings (times_of m.breaks) p) (lent_for m words numbers))
   unfolding answer
   read_answer m w p v =
-      let scored = ap (λ (x : Checked PlayScore). reads (given_answer x)) (read_right m words numbers p w) in
+      let scored = ap (λ (x : Checked PlayScore). reads (at_0 x)) (read_right m words numbers p w) in
       record { as_in_file = scored ∙ ap reads (sym (in_file m w p v)); as_scored = scored }
 
   read_steps : (n : ℕ) (s : Settings) (br : List Float) (p : Play) (m : Map) → MapWithin m → Steps (read n s br p) m
@@ -119,9 +116,9 @@ module _ (words : List ℕ) (numbers : List Float) where
       → ReadBreaksAnswer m p f (answer (read_breaks (length m.objects) m.settings (times_of m.breaks) p f) (lent_for m words numbers))
   unfolding answer
   read_breaks_answer m w p v f =
-      let scored = ap (λ (x : Checked PlayScore). reads_breaks (with_breaks p f (given_answer x))) (read_right m words numbers p w) in
+      let scored = ap (λ (x : Checked PlayScore). reads_breaks (with_breaks p f (at_0 x))) (read_right m words numbers p w) in
       record {
-        as_in_file = scored ∙ ap (λ (x : GivenPlay). reads_breaks (with_breaks p f x)) (sym (in_file m w p v));
+        as_in_file = scored ∙ ap (λ (x : OrRefusal PlayScore). reads_breaks (with_breaks p f x)) (sym (in_file m w p v));
         as_called = scored ∙ ap (λ (x : Outcome Scores). reads_breaks (with_breaks p f (given_play_of p x))) (sym (within_scored m w));
       }
 
@@ -142,8 +139,8 @@ module _ (words : List ℕ) (numbers : List Float) where
       let same = eq-eqb (length m.objects) (length m.objects) refl in
       let map : map_after (edit (length m.objects) place r) m ≡ cond (ltb place (length m.objects)) (put_if_accepted m place (object_in r)) m =
       ap (λ (t : Bool). cond (t && ltb place (length m.objects)) (put_if_accepted m place (object_in r)) m) same in (
-        λ _. ap (λ (z : Written × List ℕ × List Float). answered z.0) e,
-        ap (λ (z : Written × List ℕ × List Float). record { board = z.1; starts = z.2 }) e ∙ ap (λ (x : Map). lent_for x words numbers) (sym map),
+        λ _. ap (λ (z : OrRefusal (Unit {0}) × List ℕ × List Float). answered z.0) e,
+        ap (λ (z : OrRefusal (Unit {0}) × List ℕ × List Float). record { board = z.1; starts = z.2 }) e ∙ ap (λ (x : Map). lent_for x words numbers) (sym map),
         subst MapWithin (sym map) (inside (ltb place (length m.objects))),
       )
     where
@@ -188,11 +185,11 @@ module _ (words : List ℕ) (numbers : List Float) where
       )
 
 -- ---- from the build on
-abbrev Built : Map → List ℕ → List Float → Written × List ℕ × List Float → Type 0
+abbrev Built : Map → List ℕ → List Float → OrRefusal (Unit {0}) × List ℕ × List Float → Type 0
 Built m b ts z =
     ◌≡◌ {A = Lent} (record { board = z.1; starts = z.2 }) (lent_for m (drop (place_words * cap_of (length m.objects)) b) (drop (length m.objects) ts))
 
-build_done : (m : Map) (b : List ℕ) (ts : List Float) → (written_left (build_of m.objects b ts) b ts).0 ≡ written.Done
+build_done : (m : Map) (b : List ℕ) (ts : List Float) → (written_left (build_of m.objects b ts) b ts).0 ≡ good tt
     → Built m b ts (written_left (build_of m.objects b ts) b ts)
 unfolding build_of ◌>>◌
 build_done m b ts e = go (room_for b ts (length m.objects)) e
@@ -200,7 +197,7 @@ build_done m b ts e = go (room_for b ts (length m.objects)) e
     laid : List ℕ × List Float
     laid = (board_of m.objects ++ drop (place_words * cap_of (length m.objects)) b, starts_of m.objects ++ drop (length m.objects) ts)
 
-    go : (x : Checked (Unit {0})) → (written_left (x >> good laid) b ts).0 ≡ written.Done → Built m b ts (written_left (x >> good laid) b ts)
+    go : (x : Checked (Unit {0})) → (written_left (x >> good laid) b ts).0 ≡ good tt → Built m b ts (written_left (x >> good laid) b ts)
     go (refused k) e = never (cc)
     go (good u) e = refl
 
@@ -210,10 +207,10 @@ pub record Begins (s : List ℕ) (b : List ℕ) (ts : List Float) : Type 0 where
   pub lent : lent_by s b ts
       ≡ lent_for (map_in (file_of s)) (drop (place_words * cap_of (length (map_in (file_of s)).objects)) b) (drop (length (map_in (file_of s)).objects) ts)
 
-pub begins : (s : List ℕ) (b : List ℕ) (ts : List Float) → (built (scores_of (file_of s)) b ts).0 ≡ written.Done → Begins s b ts
+pub begins : (s : List ℕ) (b : List ℕ) (ts : List Float) → (built (scores_of (file_of s)) b ts).0 ≡ good tt → Begins s b ts
 begins s b ts e = go (scores_of (file_of s)) refl e
   where
-    go : (x : Outcome Scores) → scores_of (file_of s) ≡ x → (built x b ts).0 ≡ written.Done → Begins s b ts
+    go : (x : Outcome Scores) → scores_of (file_of s) ≡ x → (built x b ts).0 ≡ good tt → Begins s b ts
     go (refusal n at) q e = never (cc)
     go (values sc) q e =
         let k = no_number s sc q in

@@ -1,5 +1,6 @@
 -- The demands on the engine: the counterpart of docs/DEMANDS.md, which says which contracts the theorems are about. Each theorem stands
 -- under the sentence that it answers. `file_of` and `scores_of` are what the contracts of the public calls say of the bytes that they are given.
+use Rattle.std.specs.Prelude.{Some}
 use mathlib.Core.Bool.{true}
 use mathlib.Core.List.{List, [], ◌++◌}
 use mathlib.Core.Logic.{◌≢◌}
@@ -12,7 +13,8 @@ use Rattle.numbers.proofs.words.Laws.{Bytes}
 use Rattle.spinner.specs.HalfSpins.{total_half_spins, required_half_spins}
 use Rattle.spinner.proofs.Walks.{ByCounts, by_counts, SpunByCounts, spun_by_counts}
 use Rattle.rules.specs.Limits.{combo_limit}
-use Rattle.rules.specs.Refusals.{good, BOARD}
+use Rattle.rules.specs.Refusals.{good, BOARD, refused, refusal_at, at_0}
+use Rattle.rules.specs.declared.refusal.Rule.{Rule}
 use Rattle.play_state.specs.declared.Play.{Play}
 use Rattle.records.specs.Objects.{Object}
 use Rattle.records.specs.declared.beatmap.Settings.{Settings}
@@ -30,12 +32,9 @@ use Rattle.simulator.specs.declared.attributes.OsuDifficultyAttributes.{OsuDiffi
 use Rattle.simulator.proofs.Exact.{rust_spinner_score}
 use Rattle.estimates.specs.Effective.{estimates_of}
 use Rattle.estimates.proofs.Range.{FromMissesToJudgements}
-use Rattle.play_score.specs.declared.GivenPlay.TheVariants as given
-use Rattle.play_score.specs.PlayRules.{given_answer}
 use Rattle.slider_breaks.specs.Given.{BreaksScore, with_breaks}
 use Rattle.slider_breaks.specs.declared.calculator.SliderFactors.{SliderFactors}
 use Rattle.slider_breaks.proofs.Range.{BreaksInRange}
-use Rattle.slider_breaks.specs.Given as breaks
 use Rattle.scoring.specs.Scores.{refusal, values, Scores, scores_of, given_play_of}
 use Rattle.scoring.proofs.Answers.{no_number}
 use Rattle.scoring.proofs.Rules.{IsRule, refusal_rule}
@@ -44,10 +43,8 @@ use Rattle.tree.specs.Board.{board_of, starts_of}
 use Rattle.tree.specs.Size.{cap_of}
 use Rattle.board.specs.Read.{read_of}
 use Rattle.board.specs.Edit.{object_in, edit_of}
-use Rattle.board.specs.declared.place.Written.TheVariants as written
 use Rattle.board_build.specs.Build.{built}
 use Rattle.listing.specs.Listing.{input_text, listed_of}
-use Rattle.listing.specs.declared.Listed.TheVariants as listed
 use Rattle.listing.proofs.Fits.{listing_told}
 use Rattle.demands.specs.Calls.{is_accepted, AcceptedMap, changed, times_of, map_in, lent_for, lent_by, Call, edit, read, read_breaks, edits, reads, reads_breaks, answer, map_after_all, lent_after_all, MayStand, Claim}
 use Rattle.board.proofs.Numbers.{Numbered, read_numbered}
@@ -65,12 +62,12 @@ use Rattle.demands.proofs.Lists.{left_by_a_list}
 
 -- ---- Demand 1
 -- "Fed anything, the program finishes", with its listing: the text of every input leaves room in the program's space of 262,144 bytes
-pub every_listing_fits : (s : List ℕ) → listed_of (input_text s) 262144 ≡ listed.Text (length (input_text s))
+pub every_listing_fits : (s : List ℕ) → listed_of (input_text s) 262144 ≡ Some (length (input_text s))
 every_listing_fits = listing_told
 
 -- "An input that breaks a rule of document 01 gets that rule's number": a refusal's number is that of a rule, 2 to 9 (1 is the program's own).
 -- Which rule it is, `record_of` and `play_score` say check by check.
-pub refused_by_a_rule : (s : List ℕ) (n at : ℕ) → scores_of (file_of s) ≡ refusal n at → IsRule n
+pub refused_by_a_rule : (s : List ℕ) (n : Rule) (at : ℕ) → scores_of (file_of s) ≡ refusal n at → IsRule n
 refused_by_a_rule = refusal_rule
 
 -- on any lent memory a refused edit or read has a number from 2 to 13 but for 10; so none has 0, which a host takes for a good call
@@ -85,7 +82,7 @@ pub refused_play_breaks_by_a_rule : (s : List ℕ) (p : Play) (f : SliderFactors
 refused_play_breaks_by_a_rule = play_breaks_numbered
 
 pub refused_read_breaks_by_a_rule : (b : List ℕ) (ts : List Float) (n : ℕ) (s : Settings) (br : List Float) (p : Play) (f : SliderFactors)
-    → BreaksNumbered (with_breaks p f (given_answer (read_of b ts n s br p)))
+    → BreaksNumbered (with_breaks p f (at_0 (read_of b ts n s br p)))
 refused_read_breaks_by_a_rule = read_breaks_numbered
 
 -- document 02, §3: "it is shown that 10 no longer occurs", in any call on any input and any lent memory
@@ -128,7 +125,7 @@ effective_misses_in_range = effective_of_a_play
 
 -- document 02, §1: on every accepted play each of the two estimates of slider breaks lies from 0 to the play's 100s
 pub slider_breaks_in_range : (s : List ℕ) (p : Play) (f : SliderFactors) (b : BreaksScore)
-    → with_breaks p f (given_play_of p (scores_of (file_of s))) ≡ breaks.Score b → BreaksInRange b.slider_breaks p.hitresults.n100
+    → with_breaks p f (given_play_of p (scores_of (file_of s))) ≡ good b → BreaksInRange b.slider_breaks p.hitresults.n100
 slider_breaks_in_range = breaks_of_a_play
 
 -- "These products are exact; no cast saturates": for every accepted map and passed count, the Rust's float products and sums are the whole numbers of
@@ -172,7 +169,7 @@ every_list_of_calls = calls_right
 pub every_accepted_map_is_built : (m : Map) → AcceptedMap m → (b : List ℕ) (ts : List Float) → place_words * cap_of (length m.objects) ≤ length b
     → length m.objects ≤ length ts
     → built (scores_of (file_of (map_file m))) b ts
-    ≡ (written.Done, board_of m.objects ++ drop (place_words * cap_of (length m.objects)) b, starts_of m.objects ++ drop (length m.objects) ts)
+    ≡ (good tt, board_of m.objects ++ drop (place_words * cap_of (length m.objects)) b, starts_of m.objects ++ drop (length m.objects) ts)
 every_accepted_map_is_built = build_is_done
 
 -- the accepted maps are those within the limits
@@ -184,7 +181,7 @@ maps_within_are_accepted = within_is_accepted
 
 -- "after it the board is, entry for entry, and the start table, number for number, that of the map as the list has left it"
 pub left_by_every_list : (s : List ℕ) (b : List ℕ) (ts : List Float) (cs : List Call)
-    → (built (scores_of (file_of s)) b ts).0 ≡ written.Done
+    → (built (scores_of (file_of s)) b ts).0 ≡ good tt
     → MayStand cs (map_in (file_of s)) (lent_by s b ts)
     → AcceptedMap (map_after_all cs (map_in (file_of s)))
     × (lent_after_all cs (lent_by s b ts)
@@ -212,13 +209,13 @@ edit_touches_only = boards.edit_touches_only
 
 -- no call on the board of an accepted map, with the map's count, settings and breaks, gets 13
 pub never_13_edit : (m : Map) (words : List ℕ) (numbers : List Float) (place : ℕ) (r : List ℕ) → AcceptedMap m
-    → answer (edit (length m.objects) place r) (lent_for m words numbers) ≢ edits (written.Refused BOARD 0)
+    → answer (edit (length m.objects) place r) (lent_for m words numbers) ≢ edits (refused (refusal_at BOARD 0))
 never_13_edit = boards.never_13_edit
 
 pub never_13_read : (m : Map) (words : List ℕ) (numbers : List Float) (p : Play) → AcceptedMap m
-    → answer (read (length m.objects) m.settings (times_of m.breaks) p) (lent_for m words numbers) ≢ reads (given.Refused BOARD 0)
+    → answer (read (length m.objects) m.settings (times_of m.breaks) p) (lent_for m words numbers) ≢ reads (refused (refusal_at BOARD 0))
 never_13_read = boards.never_13_read
 
 pub never_13_read_breaks : (m : Map) (words : List ℕ) (numbers : List Float) (p : Play) (f : SliderFactors) → AcceptedMap m
-    → answer (read_breaks (length m.objects) m.settings (times_of m.breaks) p f) (lent_for m words numbers) ≢ reads_breaks (breaks.Refused BOARD 0)
+    → answer (read_breaks (length m.objects) m.settings (times_of m.breaks) p f) (lent_for m words numbers) ≢ reads_breaks (refused (refusal_at BOARD 0))
 never_13_read_breaks = boards.never_13_read_breaks

@@ -12,7 +12,8 @@ use lib.Dec.{ltb}
 use lib.Ieee.{Float}
 use lib.ListN.{length, set, length-append, length-map}
 use Rattle.rules.specs.Limits.{max_bonus}
-use Rattle.rules.specs.Refusals.{Checked, good, refused, ◌>>=◌}
+use Rattle.rules.specs.Refusals.{Checked, good, refused, ◌>>=◌, OrRefusal, refusal_at, BONUS, PLACE}
+use Rattle.rules.specs.declared.refusal.Rule.{Rule}
 use Rattle.records.specs.Objects.{Object, bonus}
 use Rattle.map_file.specs.File.{Map}
 use Rattle.encoding.specs.Limits.{ObjectWithin, MapWithin}
@@ -23,8 +24,6 @@ use Rattle.tree.specs.Board.{board_of, starts_of}
 use Rattle.tree.proofs.Changed.{change, board_length}
 use Rattle.board.specs.Place.{room_for, put_place, written_left}
 use Rattle.board.specs.Edit.{object_in, edit_of}
-use Rattle.board.specs.declared.place.Written.{Written}
-use Rattle.board.specs.declared.place.Written.TheVariants as written
 use Rattle.board.proofs.Rooms as rooms
 use Rattle.board.proofs.Edits as edits
 use Rattle.demands.specs.Calls.{is_accepted, changed, put_if_accepted, record_answer, edit_answer}
@@ -56,18 +55,18 @@ module _ (m : Map) (w : MapWithin m) (words : List ℕ) (numbers : List Float) w
       rooms.roomy b ts (length os) w.few_objects (omega (arith, long)) (omega (arith, count, same))
 
   -- the answer and both slices at last
-  abbrev Left : Written → Map → Written × List ℕ × List Float
+  abbrev Left : OrRefusal (Unit {0}) → Map → OrRefusal (Unit {0}) × List ℕ × List Float
   Left a x = (a, board_of x.objects ++ words, starts_of x.objects ++ numbers)
 
   module _ (place : ℕ) (r : List ℕ) where
-    abbrev left : Checked (List ℕ × List Float) → Written × List ℕ × List Float
+    abbrev left : Checked (List ℕ × List Float) → OrRefusal (Unit {0}) × List ℕ × List Float
     left x = written_left x b ts
 
-    pub edit_past : length os ≤ place → left (edit_of b ts (length os) place r) ≡ Left (written.Refused 12 0) m
+    pub edit_past : length os ≤ place → left (edit_of b ts (length os) place r) ≡ Left (refused (refusal_at PLACE 0)) m
     edit_past h = ap left (edits.past b ts (length os) place r room h)
 
     module _ (inside : place < length os) where
-      bad : (k : ℕ) → object_in r ≡ refused k → left (edit_of b ts (length os) place r) ≡ Left (record_answer m place (refused k)) (put_if_accepted m place (refused k))
+      bad : (k : Rule) → object_in r ≡ refused k → left (edit_of b ts (length os) place r) ≡ Left (record_answer m place (refused k)) (put_if_accepted m place (refused k))
       bad k e = ap left (edits.bad_record b ts (length os) place r room inside k e)
 
       -- a record that is just one object
@@ -78,19 +77,19 @@ module _ (m : Map) (w : MapWithin m) (words : List ℕ) (numbers : List Float) w
           ap left (edits.puts b ts (length os) place r room inside o e)
           ∙ go (ltb max_bonus (bonus (set os place o))) (change os words place o w.objects w.few_objects w.low_bonus v inside) (by_bonus m w place o v)
         where
-          stored : Checked (List ℕ) → Written × List ℕ × List Float
+          stored : Checked (List ℕ) → OrRefusal (Unit {0}) × List ℕ × List Float
           stored x = left (x >>= (λ l. good (l, set ts place o.start)))
 
-          by : Bool → Written × List ℕ × List Float
-          by t = Left (cond t written.Done (written.Refused 7 0)) (cond t (changed m place o) m)
+          by : Bool → OrRefusal (Unit {0}) × List ℕ × List Float
+          by t = Left (cond t (good tt) (refused (refusal_at BONUS 0))) (cond t (changed m place o) m)
 
-          go : (t : Bool) → climbed (levels_of (length os)) b (cap_of (length os) + place) (entry_of (o ∷ [])) ≡ cond t (refused 7) (good (board_of (set os place o) ++ words))
+          go : (t : Bool) → climbed (levels_of (length os)) b (cap_of (length os) + place) (entry_of (o ∷ [])) ≡ cond t (refused BONUS) (good (board_of (set os place o) ++ words))
               → is_accepted (changed m place o) ≡ not t
               → stored (climbed (levels_of (length os)) b (cap_of (length os) + place) (entry_of (o ∷ []))) ≡ by (is_accepted (changed m place o))
           go true c a = ap stored c ∙ ap by (sym a)
           go false c a =
               ap stored c
-              ∙ ap (λ (l : List Float). (written.Done, board_of (set os place o) ++ words, l)) (starts-set os numbers place o inside)
+              ∙ ap (λ (l : List Float). (good tt, board_of (set os place o) ++ words, l)) (starts-set os numbers place o inside)
               ∙ ap by (sym a)
 
       by_record : left (edit_of b ts (length os) place r) ≡ Left (record_answer m place (object_in r)) (put_if_accepted m place (object_in r))
@@ -103,8 +102,8 @@ module _ (m : Map) (w : MapWithin m) (words : List ℕ) (numbers : List Float) w
     pub edit_right : left (edit_of b ts (length os) place r) ≡ Left (edit_answer m place r) (cond (ltb place (length os)) (put_if_accepted m place (object_in r)) m)
     edit_right = go (dec_lt place (length os))
       where
-        by : Bool → Written × List ℕ × List Float
-        by t = Left (cond t (record_answer m place (object_in r)) (written.Refused 12 0)) (cond t (put_if_accepted m place (object_in r)) m)
+        by : Bool → OrRefusal (Unit {0}) × List ℕ × List Float
+        by t = Left (cond t (record_answer m place (object_in r)) (refused (refusal_at PLACE 0))) (cond t (put_if_accepted m place (object_in r)) m)
 
         go : Dec (place < length os) → left (edit_of b ts (length os) place r) ≡ by (ltb place (length os))
         go (yes h) = by_record h ∙ ap by (sym (lt-ltb place (length os) h))

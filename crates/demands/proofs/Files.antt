@@ -5,7 +5,7 @@ use mathlib.Core.List.{List, [], ◌∷◌, ◌++◌}
 use mathlib.Core.Path.{◌≡◌, refl, sym, ap, ◌∙◌, subst}
 use Prim.Native.Nat.{ℕ}
 use Rattle.numbers.proofs.words.Laws.{Bytes}
-use Rattle.rules.specs.Refusals.{Checked, good, refused, ◌>>◌, refuse◌when◌}
+use Rattle.rules.specs.Refusals.{Checked, good, refused, ◌>>◌, refuse◌when◌, PLAY_EXCEEDS}
 use Rattle.rules.proofs.Laws.{never}
 use Rattle.play_state.specs.declared.Play.{Play}
 use Rattle.map_file.specs.File.{Map, file_of}
@@ -44,7 +44,7 @@ unfolding play_score ◌>>◌ refuse◌when◌
 good_keeps m p s e =
     go (exceeds p (score_attributes_at m p.passed_objects)) refl e
   where
-    go : (x : Bool) → exceeds p (score_attributes_at m p.passed_objects) ≡ x → ((refuse 9 when x) >> good (scored m p)) ≡ good s → Keeps m p
+    go : (x : Bool) → exceeds p (score_attributes_at m p.passed_objects) ≡ x → ((refuse PLAY_EXCEEDS when x) >> good (scored m p)) ≡ good s → Keeps m p
     go true f e = never (cc)
     go false f e = f
 

@@ -1,5 +1,6 @@
 -- The claim in use: a list of calls on the board of run (4), built in more memory than it needs. What the list leaves and what its calls answer is
 -- told by the claim: nothing that a call does to lent memory is computed behind `stands`, so that a weaker claim would not tell it.
+use Rattle.std.specs.Prelude.{None}
 use mathlib.Core.List.{List, [], ◌∷◌, ◌++◌, map}
 use mathlib.Core.Logic.{inl, inr}
 use mathlib.Core.Path.{◌≡◌, refl, ap}
@@ -13,11 +14,10 @@ use Rattle.numbers.specs.MinMax.{max_of, min_of, clamp_of}
 use Rattle.numbers.specs.Rounding.{round_ties_even_i32}
 use Rattle.spinner.specs.HalfSpins.{total_half_spins, required_half_spins}
 use Rattle.spinner.specs.Bonus.{legacy_of, standardised_of, half_spin_points}
-use Rattle.rules.specs.Refusals.{◌>>=◌, ◌>>◌, refuse◌when◌}
+use Rattle.rules.specs.Refusals.{◌>>=◌, ◌>>◌, refuse◌when◌, good, refused, refusal_at, number_of, MARK, PLACE}
 use Rattle.play_state.specs.Play.{flags_bad, hitresults_of}
 use Rattle.play_state.specs.declared.Play.{Play}
 use Rattle.play_state.specs.declared.OsuScoreOrigin.TheVariants.{Stable}
-use Rattle.play_state.specs.declared.LegacyTotalScore.TheVariants.{Absent}
 use Rattle.records.specs.Objects.{Kind, circle, slider, spinner, Object, tick, repeat, bonus, repeats, ticks}
 use Rattle.records.specs.Records.{header_of, break_of, circle_of, nested_of, slider_of, spinner_of, play_of, object_of}
 use Rattle.map_file.specs.Order.{body_of, record_of}
@@ -31,7 +31,6 @@ use Rattle.simulator.specs.Walk.{walk, after}
 use Rattle.simulator.specs.Nested.{spinner_score_of, counted, counted_all, nested_score_of}
 use Rattle.simulator.specs.Attributes.{score_attributes_at, score_attributes_of, legacy_attributes_of, difficulty_attributes_of, bonus_ratio_of}
 use Rattle.play_score.specs.PlayRules.{mods_bad, hits_exceed, exceeds, play_score, given_score}
-use Rattle.play_score.specs.declared.GivenPlay.TheVariants as given
 use Rattle.scoring.specs.Scores.{play_scores, scores_of}
 use Rattle.exponential.specs.Exp.{series_of, squared, exp_of}
 use Rattle.miss_calc.specs.ScoreBased.{score_based_of}
@@ -42,7 +41,6 @@ use Rattle.slider_breaks.specs.Difficulty.{reverse_lerp_of, smoothstep_of, logis
 use Rattle.slider_breaks.specs.SliderBreaks.{adjusted_of, slider_breaks_of, estimated_breaks}
 use Rattle.slider_breaks.specs.Given.{is_factor, factors_bad}
 use Rattle.slider_breaks.specs.declared.calculator.SliderFactors.{SliderFactors}
-use Rattle.slider_breaks.specs.Given as given_breaks
 use Rattle.entries.specs.Entry.{total, entry_of, joined, in_limits}
 use Rattle.entries.specs.Words.{entry_at, put_entry, words_from}
 use Rattle.tree.specs.Size.{levels_from, levels_of}
@@ -51,7 +49,6 @@ use Rattle.tree.specs.Put.{above_of, climbed}
 use Rattle.tree.specs.Board.{covered, entry_in, board_entry, board_of}
 use Rattle.board.specs.Place.{room_for, put_place}
 use Rattle.board.specs.Edit.{object_in, edit_of}
-use Rattle.board.specs.declared.place.Written.TheVariants as written
 use Rattle.board_build.specs.Build.{build_of, built}
 use Rattle.demands.specs.Calls.{is_accepted, times_of, Lent, map_in, lent_by, Call, edit, read, read_breaks, CallAnswer, edits, reads, reads_breaks, answer, lent_after, lent_after_all, map_after, MayStand, Right}
 use Rattle.demands.proofs.CallsRight.{calls_right}
@@ -95,7 +92,7 @@ play_on combo n300 n100 misses = record {
   max_combo = combo;
   hitresults = record { large_tick_hits = 0; small_tick_hits = 0; slider_end_hits = 0; n300 = n300; n100 = n100; n50 = 0; misses = misses };
   origin = Stable;
-  legacy_total_score = Absent;
+  legacy_total_score = None;
   mods = record { flags = 0; clock_rate = whole 1 };
 }
 
@@ -147,7 +144,7 @@ read_thrice : Lent
 read_thrice = lent_after (read_breaks 3 built-map.settings times broken wrong_factors) read_twice
 
 -- ---- the claim's premises, computed
-done : (built (scores_of (file_of file)) words numbers).0 ≡ written.Done
+done : (built (scores_of (file_of file)) words numbers).0 ≡ good tt
 unfolding at built-map words file numbers is_accepted map_file header_bytes break_bytes nested_bytes object_bytes each fields_of file_of file_from with_record counts_of bonus record_of body_of object_of header_of break_of circle_of slider_of spinner_of play_of nested_of hitresults_of flags_bad word_at bytes_of ◌>>=◌ ◌>>◌ refuse◌when◌ of_bits le lt eq neg of_int to_bits play_scores build_of room_for levels_from levels_of
 done = refl
 
@@ -169,16 +166,16 @@ sized combo n300 n100 misses c h k m = record {
 -- multiplier, combo points and legacy bonus of a read
 values_of : CallAnswer → List (ℕ × ℕ × ℕ)
 values_of (edits w) = []
-values_of (reads (given.Refused n at)) = []
-values_of (reads (given.Score s)) = (s.attributes.multiplier, s.attributes.legacy.combo_score, s.attributes.legacy.bonus_score.0) ∷ []
+values_of (reads (refused r)) = []
+values_of (reads (good s)) = (s.attributes.multiplier, s.attributes.legacy.combo_score, s.attributes.legacy.bonus_score.0) ∷ []
 values_of (reads_breaks a) = []
 
 -- legacy bonus, and the bits of both breaks of a read with factors, or the number and offset of its refusal
 breaks_in : CallAnswer → List ℕ
 breaks_in (edits w) = []
 breaks_in (reads a) = []
-breaks_in (reads_breaks (given_breaks.Refused n at)) = n ∷ at ∷ []
-breaks_in (reads_breaks (given_breaks.Score s)) =
+breaks_in (reads_breaks (refused r)) = number_of r.rule ∷ r.offset ∷ []
+breaks_in (reads_breaks (good s)) =
     s.score.attributes.legacy.bonus_score.0 ∷ to_bits binary64 s.slider_breaks.aim ∷ to_bits binary64 s.slider_breaks.speed ∷ []
 
 record Told : Type 0 where
@@ -188,9 +185,9 @@ record Told : Type 0 where
         board = board_of (at 0 circle ∷ at 5000 (slider (tick ∷ repeat ∷ tick ∷ [])) ∷ at 9000 (spinner (whole 1400)) ∷ []) ++ (7 ∷ []);
         starts = whole 0 ∷ whole 5000 ∷ whole 9000 ∷ whole 9 ∷ [];
       }
-  first_edit : answer (edit 3 2 spin) first ≡ edits written.Done
-  second_edit : answer (edit 3 3 spin) (lent_after (edit 3 2 spin) first) ≡ edits (written.Refused 12 0)
-  third_edit : answer (edit 3 0 (spin ++ (0 ∷ []))) (lent_after (edit 3 3 spin) (lent_after (edit 3 2 spin) first)) ≡ edits (written.Refused 3 0)
+  first_edit : answer (edit 3 2 spin) first ≡ edits (good tt)
+  second_edit : answer (edit 3 3 spin) (lent_after (edit 3 2 spin) first) ≡ edits (refused (refusal_at PLACE 0))
+  third_edit : answer (edit 3 0 (spin ++ (0 ∷ []))) (lent_after (edit 3 3 spin) (lent_after (edit 3 2 spin) first)) ≡ edits (refused (refusal_at MARK 0))
   first_read : values_of (answer (read 3 built-map.settings times play) edited) ≡ (2, 240, 8800) ∷ []
   -- the Rust's steps in another program's doubles gave these bits
   with_factors : breaks_in (answer (read_breaks 3 built-map.settings times broken factors) read_once) ≡ 8800 ∷ 0x3f92_3879_ed03_2d18 ∷ 0x3f9d_2729_7b38_4826 ∷ []

@@ -10,7 +10,7 @@ use borrow.Author.Tests.{ne_eqb}
 use lib.Dec.{eqb, eqb-suc-zero}
 use lib.Ieee.{Float, nan}
 use lib.ListN.{length, take, get_or, length-append, length-map}
-use Rattle.rules.specs.Refusals.{good, ◌>>◌, refuse◌when◌}
+use Rattle.rules.specs.Refusals.{good, ◌>>◌, refuse◌when◌, PLAY_FIELD}
 use Rattle.records.specs.Objects.{Object}
 use Rattle.map_file.specs.File.{Map}
 use Rattle.records.specs.declared.beatmap.BreakPeriod.{BreakPeriod}
@@ -175,12 +175,12 @@ module _ (m : Map) (words : List ℕ) (numbers : List Float) (p : Play) (w : Map
   right = go (mods_bad p.mods) refl
     where
       go : (t : Bool) → mods_bad p.mods ≡ t → read_of b ts n m.settings br p ≡ given_score p a
-      go true e = bad_mods b ts n m.settings br p few room arguments e ∙ sym (when_true 8 (mods_bad p.mods) (play_score p a) e)
+      go true e = bad_mods b ts n m.settings br p few room arguments e ∙ sym (when_true PLAY_FIELD (mods_bad p.mods) (play_score p a) e)
       go false e =
           reads b ts n m.settings br p few room arguments e
           ∙ found b ts n m.settings br p (found_at m.objects passed) finds_passed
           ∙ ap (play_score p) attributes
-          ∙ sym (when_false 8 (mods_bad p.mods) (play_score p a) e)
+          ∙ sym (when_false PLAY_FIELD (mods_bad p.mods) (play_score p a) e)
 
 pub read_right : (m : Map) (words : List ℕ) (numbers : List Float) (p : Play) → MapWithin m
     → read_of (board_of m.objects ++ words) (starts_of m.objects ++ numbers) (length m.objects) m.settings (times_of m.breaks) p

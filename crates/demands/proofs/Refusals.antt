@@ -1,6 +1,5 @@
--- On any lent memory a refused edit or read has one of document 01's numbers, 2 to 13 but for 10, with factors 14 too, and no refusal has number 0, which a host
--- takes for a good call.
--- And what a play is told of its misses lies from its misses to its judgements. Assumes nothing.
+-- On any lent memory a refused edit or read has one of document 01's numbers, 2 to 13 but for 10, with factors 14 too; so none has 0, which a host takes for a good
+-- call. And what a play is told of its misses lies from its misses to its judgements. Assumes nothing.
 use mathlib.Core.Bool.{Bool, true, false, ◌&&◌, ◌||◌, true≢false}
 use mathlib.Core.List.{List, [], ◌∷◌}
 use mathlib.Core.Path.{◌≡◌, refl, sym}
@@ -15,8 +14,8 @@ use Rattle.numbers.specs.Floats.{whole}
 use Rattle.numbers.proofs.Bounds.{plain}
 use Rattle.numbers.proofs.Order.{whole_le, le_of_not_lt}
 use Rattle.numbers.proofs.Intervals.{whole-at_least, of_tests_between, wider, between_below}
-use Rattle.rules.specs.Refusals.{Checked, good, refused, pick, FACTOR}
-use Rattle.rules.proofs.Laws.{never}
+use Rattle.rules.specs.Refusals.{Checked, OrRefusal, good, refused, pick, PLACE, FACTOR, refusal_at, at_0, number_of}
+use Rattle.rules.specs.declared.refusal.Rule.{Rule}
 use Rattle.play_state.specs.declared.Play.{Play}
 use Rattle.records.specs.declared.beatmap.Settings.{Settings}
 use Rattle.map_file.specs.File.{file_of}
@@ -26,10 +25,9 @@ use Rattle.simulator.specs.declared.attributes.OsuDifficultyAttributes.{OsuDiffi
 use Rattle.miss_calc.specs.Counts.{total_hits}
 use Rattle.estimates.specs.Effective.{estimates_of}
 use Rattle.estimates.proofs.Range.{FromMissesToJudgements, effective_range}
-use Rattle.play_score.specs.PlayRules.{given_answer, given_score}
+use Rattle.play_score.specs.PlayRules.{given_score}
 use Rattle.play_score.specs.declared.PlayScore.{PlayScore}
-use Rattle.slider_breaks.specs.Given.{BreaksScore, GivenBreaks, factors_bad, breaks_score, with_breaks}
-use Rattle.slider_breaks.specs.Given as breaks
+use Rattle.slider_breaks.specs.Given.{BreaksScore, factors_bad, breaks_score, with_breaks}
 use Rattle.slider_breaks.specs.declared.calculator.SliderFactors.{SliderFactors}
 use Rattle.scoring.specs.Scores.{Outcome, refusal, values, Scores, scores_of, given_play_of}
 use Rattle.scoring.proofs.Rules.{IsRule, Ruled, fine, rule, refusal_rule, ruled_given}
@@ -42,57 +40,46 @@ use Rattle.board.proofs.Numbers.{Number, number_is, Numbered, value, number, num
 use Rattle.demands.proofs.Boards.{record_ruled}
 
 -- the numbers of a file's rules are 2 to 9
-number_in : (highest : ℕ) {n : ℕ} → IsRule n → 9 ≤ highest → Number highest n
-number_in highest r h = record { least = r.0; most = omega (arith, r.1, h); not_10 = λ e. omega (arith, r.1, e) }
+number_in : (highest : ℕ) (n : Rule) → IsRule n → 9 ≤ highest → Number highest (number_of n)
+number_in highest n r h = record { least = r.0; most = omega (arith, r.1, h); not_10 = λ e. omega (arith, r.1, e) }
 
 pub numbered_rule : {A : Type 0} {x : Checked A} → Ruled x → Numbered x
 numbered_rule fine = value
-numbered_rule (rule r) = number (number_in 13 r (omega arith))
+numbered_rule (rule {n = n} r) = number (number_in 13 n r (omega arith))
 
 -- ---- an edit
 pub edit_numbered : (b : List ℕ) (ts : List Float) (n place : ℕ) (r : List ℕ) → Numbered (edit_of b ts n place r)
 unfolding edit_of put_place
 edit_numbered b ts n place r =
-    numbered_then _ _ (room_numbered b ts n) (numbered_then _ _ (numbered_when 12 _ refl) (numbered_bind _ _ (numbered_rule (record_ruled r)) (λ o.
+    numbered_then _ _ (room_numbered b ts n) (numbered_then _ _ (numbered_when PLACE _ refl) (numbered_bind _ _ (numbered_rule (record_ruled r)) (λ o.
     numbered_bind _ _ (climbed_numbered (levels_of n) b (cap_of n + place) (entry_of (o ∷ []))) (λ w. value))))
 
 -- ---- with factors
 -- values, or one of the numbers 2 to 14
-pub data BreaksNumbered : GivenBreaks → Type 0 where
-  scored : {s : BreaksScore} → BreaksNumbered (breaks.Score s)
-  numbered : {n at : ℕ} → Number 14 n → BreaksNumbered (breaks.Refused n at)
+pub data BreaksNumbered : OrRefusal BreaksScore → Type 0 where
+  scored : {s : BreaksScore} → BreaksNumbered (good s)
+  numbered : {n : Rule} {at : ℕ} → Number 14 (number_of n) → BreaksNumbered (refused (refusal_at n at))
 
-numbered_with : (p : Play) (f : SliderFactors) (x : Checked PlayScore) → Numbered x → BreaksNumbered (with_breaks p f (given_answer x))
+numbered_with : (p : Play) (f : SliderFactors) (x : Checked PlayScore) → Numbered x → BreaksNumbered (with_breaks p f (at_0 x))
 numbered_with p f (refused n) (number h) = numbered (record { least = h.least; most = omega (arith, h.most); not_10 = h.not_10 })
 numbered_with p f (good s) value = go (factors_bad f)
   where
-    go : (t : Bool) → BreaksNumbered (pick t (breaks.Refused FACTOR 0) (breaks.Score (breaks_score p f s)))
-    go true = numbered {n = FACTOR} (number_is 14 FACTOR refl)
+    go : (t : Bool) → BreaksNumbered (pick t (refused (refusal_at FACTOR 0)) (good (breaks_score p f s)))
+    go true = numbered {n = FACTOR} (number_is 14 (number_of FACTOR) refl)
     go false = scored
 
 pub read_breaks_numbered : (b : List ℕ) (ts : List Float) (n : ℕ) (s : Settings) (br : List Float) (p : Play) (f : SliderFactors)
-    → BreaksNumbered (with_breaks p f (given_answer (read_of b ts n s br p)))
+    → BreaksNumbered (with_breaks p f (at_0 (read_of b ts n s br p)))
 read_breaks_numbered b ts n s br p f = numbered_with p f (read_of b ts n s br p) (read_numbered b ts n s br p)
 
 pub play_breaks_numbered : (s : List ℕ) (p : Play) (f : SliderFactors) → BreaksNumbered (with_breaks p f (given_play_of p (scores_of (file_of s))))
 play_breaks_numbered s p f = go (scores_of (file_of s)) refl
   where
     go : (x : Outcome Scores) → scores_of (file_of s) ≡ x → BreaksNumbered (with_breaks p f (given_play_of p x))
-    go (refusal n at) e = let r = refusal_rule s n at e in numbered (number_in 14 r (omega arith))
+    go (refusal n at) e = let r = refusal_rule s n at e in numbered (number_in 14 n r (omega arith))
     go (values sc) e =
         let a = score_attributes_at sc.map p.passed_objects in
         numbered_with p f (given_score p a) (numbered_rule (ruled_given p a))
-
--- ---- so none has number 0
-not_0 : {A : Type 0} {x : Checked A} → Numbered x → x ≡ refused 0 → ⊥
-not_0 value e = never (cc)
-not_0 (number {n = n} h) e = let z : n ≡ 0 = cc in absurd (omega (arith, h.least, z))
-
-pub edit_not_0 : (b : List ℕ) (ts : List Float) (n place : ℕ) (r : List ℕ) → edit_of b ts n place r ≡ refused 0 → ⊥
-edit_not_0 b ts n place r = not_0 (edit_numbered b ts n place r)
-
-pub read_not_0 : (b : List ℕ) (ts : List Float) (n : ℕ) (s : Settings) (br : List Float) (p : Play) → read_of b ts n s br p ≡ refused 0 → ⊥
-read_not_0 b ts n s br p = not_0 (read_numbered b ts n s br p)
 
 -- ---- the misses of a play
 judged_range : (p : Play) (a : OsuDifficultyAttributes) → total_hits p.hitresults ≤ 262140 → FromMissesToJudgements (estimates_of p a).effective p.hitresults

@@ -1,5 +1,6 @@
 -- The theorems of Demands in use: what follows from them in a step or two, by their statements alone, so that a weaker one would not give it. The claim
 -- over lists is used in ListUse. Assumes nothing.
+use Rattle.std.specs.Prelude.{Option, Some, None}
 use mathlib.Core.Bool.{true, false}
 use mathlib.Core.List.{List, [], ◌∷◌}
 use mathlib.Core.Logic.{◌≢◌}
@@ -19,7 +20,8 @@ use Rattle.numbers.proofs.Wholes.{whole-cut}
 use Rattle.numbers.proofs.words.Laws.{Bytes}
 use Rattle.spinner.specs.HalfSpins.{total_half_spins, required_half_spins}
 use Rattle.spinner.specs.Bonus.{sums_before, legacy_of, standardised_of}
-use Rattle.rules.specs.Refusals.{Checked, good, refused, BOARD}
+use Rattle.rules.specs.Refusals.{Checked, good, refused, INPUT, BOARD, HEAT, OrRefusal, refusal_at, at_0, number_of}
+use Rattle.rules.specs.declared.refusal.Rule.{Rule}
 use Rattle.play_state.specs.declared.Play.{Play}
 use Rattle.records.specs.Objects.{Object}
 use Rattle.records.specs.declared.beatmap.Settings.{Settings}
@@ -36,16 +38,12 @@ use Rattle.simulator.specs.Attributes.{score_attributes_at}
 use Rattle.simulator.specs.declared.attributes.OsuDifficultyAttributes.{OsuDifficultyAttributes}
 use Rattle.simulator.proofs.Exact.{rust_spinner_score}
 use Rattle.play_reader.specs.View.{answer_of, simulated_of}
-use Rattle.play_reader.specs.declared.Simulated.TheVariants as simulated
 use Rattle.miss_calc.specs.Counts.{total_hits}
 use Rattle.miss_calc.specs.ScoreBased.{combo_product_of}
 use Rattle.estimates.specs.Effective.{estimates_of}
-use Rattle.play_score.specs.declared.GivenPlay.TheVariants as given
-use Rattle.play_score.specs.PlayRules.{given_answer}
-use Rattle.slider_breaks.specs.Given.{BreaksScore, GivenBreaks, with_breaks}
+use Rattle.slider_breaks.specs.Given.{BreaksScore, with_breaks}
 use Rattle.slider_breaks.specs.declared.calculator.SliderFactors.{SliderFactors}
 use Rattle.slider_breaks.proofs.Range.{BreaksInRange}
-use Rattle.slider_breaks.specs.Given as breaks
 use Rattle.scoring.specs.Scores.{Outcome, refusal, values, Scores, scores_of, map_score_of, given_play_of, listed_play_of}
 use Rattle.entries.specs.Entry.{place_words}
 use Rattle.entries.specs.Words.{entry_at}
@@ -54,12 +52,8 @@ use Rattle.tree.specs.Size.{cap_of}
 use Rattle.board.specs.Place.{written_left}
 use Rattle.board.specs.Read.{read_of}
 use Rattle.board.specs.Edit.{object_in, edit_of}
-use Rattle.board.specs.declared.place.Written.{Written}
-use Rattle.board.specs.declared.place.Written.TheVariants as written
 use Rattle.board_build.specs.Build.{built}
 use Rattle.listing.specs.Listing.{input_text, listed_of}
-use Rattle.listing.specs.declared.Listed.{Listed}
-use Rattle.listing.specs.declared.Listed.TheVariants as listed
 use Rattle.host.specs.Status.{status_left}
 use Rattle.host.specs.Map.{settings_in, map_info_of}
 use Rattle.host.specs.Play.{play_in}
@@ -80,49 +74,50 @@ use Rattle.demands.proofs.Demands.{every_listing_fits, refused_by_a_rule, refuse
 
 -- ---- Demand 1
 -- no listing is cut
-abbrev has_room : Listed → ℕ
-has_room (listed.Text n) = 1
-has_room listed.NoRoom = 0
+abbrev has_room : Option ℕ → ℕ
+has_room (Some n) = 1
+has_room None = 0
 
-never_cut : (s : List ℕ) → listed_of (input_text s) 262144 ≢ listed.NoRoom
+never_cut : (s : List ℕ) → listed_of (input_text s) 262144 ≢ None
 never_cut s e = omega (arith, ap has_room (sym (every_listing_fits s) ∙ e))
 
 -- 0 is a host's number of a good call
-no_file_gets_0 : (s : List ℕ) (at : ℕ) → scores_of (file_of s) ≢ refusal 0 at
-no_file_gets_0 s at e = omega (arith, (refused_by_a_rule s 0 at e).0)
+no_file_gets_0 : (s : List ℕ) (n : Rule) (at : ℕ) → scores_of (file_of s) ≡ refusal n at → number_of n ≢ 0
+no_file_gets_0 s n at e z = omega (arith, (refused_by_a_rule s n at e).0, z)
 
 -- nor 10, which was the highest of a file's once
-no_file_gets_10 : (s : List ℕ) (at : ℕ) → scores_of (file_of s) ≢ refusal 10 at
-no_file_gets_10 s at e = omega (arith, (refused_by_a_rule s 10 at e).1)
+no_file_gets_10 : (s : List ℕ) (n : Rule) (at : ℕ) → scores_of (file_of s) ≡ refusal n at → number_of n ≢ 10
+no_file_gets_10 s n at e z = omega (arith, (refused_by_a_rule s n at e).1, z)
 
-abbrev number_of : {A : Type 0} → Checked A → ℕ
-number_of (good a) = 1
-number_of (refused n) = n
+-- the number of a refusal, and 1 for a value
+abbrev told : {A : Type 0} → Checked A → ℕ
+told (good a) = 1
+told (refused n) = number_of n
 
-not_0 : {A : Type 0} (x : Checked A) → Numbered x → x ≢ refused 0
-not_0 (good a) value e = omega (arith, ap number_of e)
-not_0 (refused n) (number h) e = omega (arith, h.least, ap number_of e)
+not_0 : {A : Type 0} (x : Checked A) → Numbered x → (n : Rule) → x ≡ refused n → number_of n ≢ 0
+not_0 (good a) value n e z = omega (arith, ap told e, z)
+not_0 (refused k) (number h) n e z = omega (arith, h.least, ap told e, z)
 
-no_edit_gets_0 : (b : List ℕ) (ts : List Float) (n place : ℕ) (r : List ℕ) → edit_of b ts n place r ≢ refused 0
+no_edit_gets_0 : (b : List ℕ) (ts : List Float) (n place : ℕ) (r : List ℕ) (k : Rule) → edit_of b ts n place r ≡ refused k → number_of k ≢ 0
 no_edit_gets_0 b ts n place r = not_0 (edit_of b ts n place r) (refused_edit_by_a_rule b ts n place r)
 
-no_read_gets_0 : (b : List ℕ) (ts : List Float) (n : ℕ) (s : Settings) (br : List Float) (p : Play) → read_of b ts n s br p ≢ refused 0
+no_read_gets_0 : (b : List ℕ) (ts : List Float) (n : ℕ) (s : Settings) (br : List Float) (p : Play) (k : Rule) → read_of b ts n s br p ≡ refused k → number_of k ≢ 0
 no_read_gets_0 b ts n s br p = not_0 (read_of b ts n s br p) (refused_read_by_a_rule b ts n s br p)
 
 -- with factors neither 1, which is the program's own, nor 15, which would be a heat's
-abbrev breaks_number : GivenBreaks → ℕ
-breaks_number (breaks.Score s) = 2
-breaks_number (breaks.Refused n at) = n
+abbrev breaks_number : OrRefusal BreaksScore → ℕ
+breaks_number (good s) = 2
+breaks_number (refused r) = number_of r.rule
 
-between : (x : GivenBreaks) → BreaksNumbered x → (2 ≤ breaks_number x) × (breaks_number x ≤ 14)
-between (breaks.Score s) scored = (omega arith, omega arith)
-between (breaks.Refused n at) (numbered h) = (h.least, h.most)
+between : (x : OrRefusal BreaksScore) → BreaksNumbered x → (2 ≤ breaks_number x) × (breaks_number x ≤ 14)
+between (good s) scored = (omega arith, omega arith)
+between (refused r) (numbered h) = (h.least, h.most)
 
-no_play_with_factors_gets_1 : (s : List ℕ) (p : Play) (f : SliderFactors) (at : ℕ) → with_breaks p f (given_play_of p (scores_of (file_of s))) ≢ breaks.Refused 1 at
+no_play_with_factors_gets_1 : (s : List ℕ) (p : Play) (f : SliderFactors) (at : ℕ) → with_breaks p f (given_play_of p (scores_of (file_of s))) ≢ refused (refusal_at INPUT at)
 no_play_with_factors_gets_1 s p f at e = omega (arith, (between _ (refused_play_breaks_by_a_rule s p f)).0, ap breaks_number e)
 
 no_read_with_factors_gets_15 : (b : List ℕ) (ts : List Float) (n : ℕ) (s : Settings) (br : List Float) (p : Play) (f : SliderFactors) (at : ℕ)
-    → with_breaks p f (given_answer (read_of b ts n s br p)) ≢ breaks.Refused 15 at
+    → with_breaks p f (at_0 (read_of b ts n s br p)) ≢ refused (refusal_at HEAT at)
 no_read_with_factors_gets_15 b ts n s br p f at e = omega (arith, (between _ (refused_read_breaks_by_a_rule b ts n s br p f)).1, ap breaks_number e)
 
 -- a host that still tests for 10 never finds it: in no answer of a call on a file, ..
@@ -131,16 +126,16 @@ module _ (s : List ℕ) (p : HostPlay) (f : HostFactors) where
   x = scores_of (file_of s)
 
   no_10_of_a_file : (i at passed : ℕ)
-      → (x ≢ refusal 10 at)
-      × (simulated_of (file_of s) passed ≢ simulated.Refused 10 at)
+      → ((n : Rule) → x ≡ refusal n at → number_of n ≢ 10)
+      × ((n : Rule) → simulated_of (file_of s) passed ≡ refused (refusal_at n at) → number_of n ≢ 10)
       × (eqb (map_info_of (answer_of (file_of s))).status 10 ≡ false)
       × (eqb (map_answer_of (map_score_of x)).status 10 ≡ false)
       × (eqb (single_of x p).status 10 ≡ false)
       × (eqb (listed_answer_of (listed_play_of i x)).status 10 ≡ false)
       × (eqb (breaks_answer_of (with_breaks (play_in p) (factors_in f) (given_play_of (play_in p) x))).status 10 ≡ false)
   no_10_of_a_file i at passed = (
-    never_10.file s at,
-    never_10.simulate s passed at,
+    λ n. never_10.file s n at,
+    λ n. never_10.simulate s passed n at,
     ne_eqb _ 10 (never_10.read_map s),
     ne_eqb _ 10 (never_10.score_map s),
     ne_eqb _ 10 (never_10.score_play s p),
@@ -157,8 +152,8 @@ module _ (s : List ℕ) (p : HostPlay) (f : HostFactors) where
   no_10_on_a_board : (b : List ℕ) (ts : List Float) (n place : ℕ) (r : List ℕ) (settings : HostSettings) (br : List Float)
       → (eqb (status_left (built x b ts)).0.status 10 ≡ false)
       × (eqb (status_left (written_left (edit_of b ts n place r) b ts)).0.status 10 ≡ false)
-      × (eqb (given_answer_of (given_answer (read_of b ts n (settings_in settings) br (play_in p)))).status 10 ≡ false)
-      × (eqb (breaks_answer_of (with_breaks (play_in p) (factors_in f) (given_answer (read_of b ts n (settings_in settings) br (play_in p))))).status 10 ≡ false)
+      × (eqb (given_answer_of (at_0 (read_of b ts n (settings_in settings) br (play_in p)))).status 10 ≡ false)
+      × (eqb (breaks_answer_of (with_breaks (play_in p) (factors_in f) (at_0 (read_of b ts n (settings_in settings) br (play_in p))))).status 10 ≡ false)
   no_10_on_a_board b ts n place r settings br = (
     ne_eqb _ 10 (never_10.build s b ts),
     ne_eqb _ 10 (never_10.edit b ts n place r),
@@ -194,7 +189,7 @@ nothing_judged p a w e =
     )
 
 -- a play without a 100 is told of no slider break
-no_100_no_break : (s : List ℕ) (p : Play) (f : SliderFactors) (b : BreaksScore) → with_breaks p f (given_play_of p (scores_of (file_of s))) ≡ breaks.Score b
+no_100_no_break : (s : List ℕ) (p : Play) (f : SliderFactors) (b : BreaksScore) → with_breaks p f (given_play_of p (scores_of (file_of s))) ≡ good b
     → p.hitresults.n100 ≡ 0 → (le (whole 0) b.slider_breaks.aim ≡ true) × (le b.slider_breaks.aim (whole 0) ≡ true) × (le (whole 0) b.slider_breaks.speed ≡ true) × (le b.slider_breaks.speed (whole 0) ≡ true)
 no_100_no_break s p f b e none =
     let range = slider_breaks_in_range s p f b e in
@@ -276,13 +271,13 @@ within_gets_none m w = accepted_map_gets_no_number m (maps_within_are_accepted m
 
 -- every map within the limits has its board
 within_is_built : (m : Map) → MapWithin m → (b : List ℕ) (ts : List Float) → place_words * cap_of (length m.objects) ≤ length b → length m.objects ≤ length ts
-    → (built (scores_of (file_of (map_file m))) b ts).0 ≡ written.Done
+    → (built (scores_of (file_of (map_file m))) b ts).0 ≡ good tt
 within_is_built m w b ts room starts = ap (λ z. z.0) (every_accepted_map_is_built m (maps_within_are_accepted m w) b ts room starts)
 
 -- an edit of a board that was just built leads to the board of the changed map, with what lay beyond the built one
 edit_of-built : (m : Map) (place : ℕ) (o : Object) (b : List ℕ) (ts : List Float) → AcceptedMap m → place_words * cap_of (length m.objects) ≤ length b
     → length m.objects ≤ length ts → place < length m.objects → AcceptedMap (changed m place o)
-    → (answer (edit (length m.objects) place (object_bytes o)) (lent_by (map_file m) b ts) ≡ edits written.Done)
+    → (answer (edit (length m.objects) place (object_bytes o)) (lent_by (map_file m) b ts) ≡ edits (good tt))
     × (lent_after (edit (length m.objects) place (object_bytes o)) (lent_by (map_file m) b ts)
     ≡ lent_for (changed m place o) (drop (place_words * cap_of (length m.objects)) b) (drop (length m.objects) ts))
 edit_of-built m place o b ts a room starts h a' =
@@ -290,7 +285,7 @@ edit_of-built m place o b ts a room starts h a' =
     let words = drop (place_words * cap_of (length m.objects)) b in
     let numbers = drop (length m.objects) ts in
     let first : lent_by (map_file m) b ts ≡ lent_for m words numbers =
-    ap (λ (z : Written × List ℕ × List Float). record { board = z.1; starts = z.2 }) (every_accepted_map_is_built m a b ts room starts) in
+    ap (λ (z : OrRefusal (Unit {0}) × List ℕ × List Float). record { board = z.1; starts = z.2 }) (every_accepted_map_is_built m a b ts room starts) in
     let leads = one_edit_leads m place o words numbers a h a' in
     (ap (answer call) first ∙ leads.done, ap (lent_after call) first ∙ leads.there)
 
@@ -301,38 +296,38 @@ accepted_edit_leads m place r o words numbers a h e t = one_edit_leads m place o
 
 -- behind every list, no call with the arguments of the map that it left gets 13
 no_13_edit : (s : List ℕ) (b : List ℕ) (ts : List Float) (cs : List Call) (place : ℕ) (r : List ℕ)
-    → (built (scores_of (file_of s)) b ts).0 ≡ written.Done
+    → (built (scores_of (file_of s)) b ts).0 ≡ good tt
     → MayStand cs (map_in (file_of s)) (lent_by s b ts)
-    → answer (edit (length (map_after_all cs (map_in (file_of s))).objects) place r) (lent_after_all cs (lent_by s b ts)) ≢ edits (written.Refused BOARD 0)
+    → answer (edit (length (map_after_all cs (map_in (file_of s))).objects) place r) (lent_after_all cs (lent_by s b ts)) ≢ edits (refused (refusal_at BOARD 0))
 no_13_edit s b ts cs place r d h e =
     let left = left_by_every_list s b ts cs d h in
     let m = map_after_all cs (map_in (file_of s)) in
     never_13_edit m _ _ place r left.0 (sym (ap (λ l. answer (edit (length m.objects) place r) l) left.1) ∙ e)
 
 no_13_read : (s : List ℕ) (b : List ℕ) (ts : List Float) (cs : List Call) (p : Play)
-    → (built (scores_of (file_of s)) b ts).0 ≡ written.Done
+    → (built (scores_of (file_of s)) b ts).0 ≡ good tt
     → MayStand cs (map_in (file_of s)) (lent_by s b ts)
     → answer (read (length (map_after_all cs (map_in (file_of s))).objects) (map_after_all cs (map_in (file_of s))).settings (times_of (map_after_all cs (map_in (file_of s))).breaks) p) (lent_after_all cs (lent_by s b ts))
-    ≢ reads (given.Refused BOARD 0)
+    ≢ reads (refused (refusal_at BOARD 0))
 no_13_read s b ts cs p d h e =
     let left = left_by_every_list s b ts cs d h in
     let m = map_after_all cs (map_in (file_of s)) in
     never_13_read m _ _ p left.0 (sym (ap (λ l. answer (read (length m.objects) m.settings (times_of m.breaks) p) l) left.1) ∙ e)
 
 no_13_read_breaks : (s : List ℕ) (b : List ℕ) (ts : List Float) (cs : List Call) (p : Play) (f : SliderFactors)
-    → (built (scores_of (file_of s)) b ts).0 ≡ written.Done
+    → (built (scores_of (file_of s)) b ts).0 ≡ good tt
     → MayStand cs (map_in (file_of s)) (lent_by s b ts)
     → answer (read_breaks (length (map_after_all cs (map_in (file_of s))).objects) (map_after_all cs (map_in (file_of s))).settings (times_of (map_after_all cs (map_in (file_of s))).breaks) p f) (lent_after_all cs (lent_by s b ts))
-    ≢ reads_breaks (breaks.Refused BOARD 0)
+    ≢ reads_breaks (refused (refusal_at BOARD 0))
 no_13_read_breaks s b ts cs p f d h e =
     let left = left_by_every_list s b ts cs d h in
     let m = map_after_all cs (map_in (file_of s)) in
     never_13_read_breaks m _ _ p f left.0 (sym (ap (λ l. answer (read_breaks (length m.objects) m.settings (times_of m.breaks) p f) l) left.1) ∙ e)
 
 -- the slider breaks that a read of a built board gives are in their range too: the claim says that it gives what the file's call gives
-read_breaks_in_range : (s : List ℕ) (b : List ℕ) (ts : List Float) (p : Play) (f : SliderFactors) (x : BreaksScore) → (built (scores_of (file_of s)) b ts).0 ≡ written.Done
+read_breaks_in_range : (s : List ℕ) (b : List ℕ) (ts : List Float) (p : Play) (f : SliderFactors) (x : BreaksScore) → (built (scores_of (file_of s)) b ts).0 ≡ good tt
     → PlaySized p
-    → answer (read_breaks (length (map_in (file_of s)).objects) (map_in (file_of s)).settings (times_of (map_in (file_of s)).breaks) p f) (lent_by s b ts) ≡ reads_breaks (breaks.Score x)
+    → answer (read_breaks (length (map_in (file_of s)).objects) (map_in (file_of s)).settings (times_of (map_in (file_of s)).breaks) p f) (lent_by s b ts) ≡ reads_breaks (good x)
     → BreaksInRange x.slider_breaks p.hitresults.n100
 read_breaks_in_range s b ts p f x d sized e =
     let m = map_in (file_of s) in
@@ -340,7 +335,7 @@ read_breaks_in_range s b ts p f x d sized e =
     let told = ((every_list_of_calls s b ts (call ∷ []) d (tt, tt)).0 refl refl refl sized).as_called in
     slider_breaks_in_range (map_file m) p f x (breaks-told (sym told ∙ e))
   where
-    breaks-told : {u v : GivenBreaks} → reads_breaks u ≡ reads_breaks v → u ≡ v
+    breaks-told : {u v : OrRefusal BreaksScore} → reads_breaks u ≡ reads_breaks v → u ≡ v
     breaks-told q = cc
 
 -- entry 0, which covers no place, and the words behind the board are as they were

@@ -2,7 +2,7 @@
 -- read with factors is that of document 02, §1.
 use Rattle.std.specs.Prelude.{ℕ, ◌*◌, ◌≡◌, ◌⊎◌, Bool, true, false, cond, ◌&&◌, List, [], ◌∷◌, ◌++◌, eqb, ltb, Float, length, drop, set}
 use Rattle.entries.specs.Entry.{place_words}
-use Rattle.rules.specs.Refusals.{Checked, good, refused, BONUS, PLACE}
+use Rattle.rules.specs.Refusals.{Checked, OrRefusal, good, refused, refusal_at, at_0, INPUT, BONUS, PLACE}
 use Rattle.records.specs.Objects.{Object}
 use Rattle.map_file.specs.File.{Map, File, Result, accepted, refused_at, file_of}
 use Rattle.records.specs.declared.beatmap.BreakPeriod.{BreakPeriod}
@@ -11,12 +11,10 @@ use Rattle.play_state.specs.declared.Play.{Play}
 use Rattle.encoding.specs.Encoding.{map_file, play_bytes}
 use Rattle.encoding.specs.Limits.{PlaySized}
 use Rattle.simulator.specs.Attributes.{score_attributes_at}
-use Rattle.play_score.specs.PlayRules.{given_answer, given_score}
+use Rattle.play_score.specs.PlayRules.{given_score}
 use Rattle.scoring.specs.Scores.{Outcome, refusal, values, Scores, scores_of, given_play_of}
 use Rattle.play_score.specs.declared.PlayScore.{PlayScore}
-use Rattle.play_score.specs.declared.GivenPlay.{GivenPlay}
-use Rattle.play_score.specs.declared.GivenPlay.TheVariants as given
-use Rattle.slider_breaks.specs.Given.{GivenBreaks, with_breaks}
+use Rattle.slider_breaks.specs.Given.{BreaksScore, with_breaks}
 use Rattle.slider_breaks.specs.declared.calculator.SliderFactors.{SliderFactors}
 use Rattle.tree.specs.Size.{cap_of}
 use Rattle.tree.specs.Board.{board_of, starts_of}
@@ -24,8 +22,6 @@ use Rattle.board.specs.Place.{written_left}
 use Rattle.board_build.specs.Build.{built}
 use Rattle.board.specs.Edit.{object_in, edit_of}
 use Rattle.board.specs.Read.{read_of}
-use Rattle.board.specs.declared.place.Written.{Written}
-use Rattle.board.specs.declared.place.Written.TheVariants as written
 
 -- ---- maps
 -- "A map is settings, breaks and objects, accepted if its file without plays gets no number from the library"
@@ -78,15 +74,15 @@ pub data Call : Type 0 where
   read_breaks : ℕ → Settings → List Float → Play → SliderFactors → Call
 
 pub data CallAnswer : Type 0 where
-  edits : Written → CallAnswer
-  reads : GivenPlay → CallAnswer
-  reads_breaks : GivenBreaks → CallAnswer
+  edits : OrRefusal (Unit {0}) → CallAnswer
+  reads : OrRefusal PlayScore → CallAnswer
+  reads_breaks : OrRefusal BreaksScore → CallAnswer
 
 -- ---- what the calls do to any lent memory: their contracts
 unfoldable pub answer : Call → Lent → CallAnswer
 answer (edit n place r) l = edits (written_left (edit_of l.board l.starts n place r) l.board l.starts).0
-answer (read n s br p) l = reads (given_answer (read_of l.board l.starts n s br p))
-answer (read_breaks n s br p f) l = reads_breaks (with_breaks p f (given_answer (read_of l.board l.starts n s br p)))
+answer (read n s br p) l = reads (at_0 (read_of l.board l.starts n s br p))
+answer (read_breaks n s br p f) l = reads_breaks (with_breaks p f (at_0 (read_of l.board l.starts n s br p)))
 
 -- "Each call gets the board and start table as the last one left them"
 unfoldable pub lent_after : Call → Lent → Lent
@@ -121,20 +117,20 @@ lent_after_all (c ∷ cs) l = lent_after_all cs (lent_after c l)
 
 -- ---- the right answers
 -- "every other edit is refused": with 12, with the number of its record's first wrong, or with 7
-abbrev pub record_answer : Map → ℕ → Checked Object → Written
-record_answer m place (refused n) = written.Refused n 0
-record_answer m place (good o) = cond (is_accepted (changed m place o)) written.Done (written.Refused BONUS 0)
+abbrev pub record_answer : Map → ℕ → Checked Object → OrRefusal (Unit {0})
+record_answer m place (refused n) = refused (refusal_at n 0)
+record_answer m place (good o) = cond (is_accepted (changed m place o)) (good tt) (refused (refusal_at BONUS 0))
 
-abbrev pub edit_answer : Map → ℕ → List ℕ → Written
-edit_answer m place r = cond (ltb place (length m.objects)) (record_answer m place (object_in r)) (written.Refused PLACE 0)
+abbrev pub edit_answer : Map → ℕ → List ℕ → OrRefusal (Unit {0})
+edit_answer m place r = cond (ltb place (length m.objects)) (record_answer m place (object_in r)) (refused (refusal_at PLACE 0))
 
 -- the play of a file with one play
-abbrev pub only_play : List PlayScore → GivenPlay
-only_play [] = given.Refused 0 0
-only_play (s ∷ ss) = given.Score s
+abbrev pub only_play : List PlayScore → OrRefusal PlayScore
+only_play [] = refused (refusal_at INPUT 0)
+only_play (s ∷ ss) = good s
 
-abbrev pub from_file : Outcome Scores → GivenPlay
-from_file (refusal n at) = given.Refused n 0
+abbrev pub from_file : Outcome Scores → OrRefusal PlayScore
+from_file (refusal n at) = refused (refusal_at n 0)
 from_file (values s) = only_play s.plays
 
 -- "A read with the map's count, settings and breaks gets 8, 9 .. exactly when its play, put after the map in the file, gets that same number; its
@@ -142,7 +138,7 @@ from_file (values s) = only_play s.plays
 -- 02, §3 took 10 away.)
 pub record ReadAnswer (m : Map) (p : Play) (a : CallAnswer) : Type 0 where
   pub as_in_file : a ≡ reads (from_file (scores_of (file_of (map_file m ++ play_bytes p))))
-  pub as_scored : a ≡ reads (given_answer (given_score p (score_attributes_at m p.passed_objects)))
+  pub as_scored : a ≡ reads (at_0 (given_score p (score_attributes_at m p.passed_objects)))
 
 -- a read with factors gives what the call with factors gives on the map's file, 14 included, and what a file with just that play gives, with factors
 pub record ReadBreaksAnswer (m : Map) (p : Play) (f : SliderFactors) (a : CallAnswer) : Type 0 where
@@ -153,8 +149,8 @@ pub record ReadBreaksAnswer (m : Map) (p : Play) (f : SliderFactors) (a : CallAn
 -- "An edit with an object count other than the map's may stand in the list only where it is refused; a read may be given a count, settings or
 -- breaks other than the map's"
 abbrev pub IsRefused : CallAnswer → Type 0
-IsRefused (edits written.Done) = ⊥
-IsRefused (edits (written.Refused n at)) = Unit {0}
+IsRefused (edits (good tt)) = ⊥
+IsRefused (edits (refused r)) = Unit {0}
 IsRefused (reads a) = Unit {0}
 IsRefused (reads_breaks a) = Unit {0}
 
@@ -190,6 +186,6 @@ lent_by s b ts = record { board = (built (scores_of (file_of s)) b ts).1; starts
 abbrev pub Claim : Type 0
 Claim =
     (s : List ℕ) (b : List ℕ) (ts : List Float) (cs : List Call)
-    → (built (scores_of (file_of s)) b ts).0 ≡ written.Done
+    → (built (scores_of (file_of s)) b ts).0 ≡ good tt
     → MayStand cs (map_in (file_of s)) (lent_by s b ts)
     → Right (drop (place_words * cap_of (length (map_in (file_of s)).objects)) b) (drop (length (map_in (file_of s)).objects) ts) cs (map_in (file_of s)) (lent_by s b ts)

@@ -1,4 +1,5 @@
 -- The map of every accepted file is within the limits: each check of a record asks for just that of its content.
+use Rattle.rules.specs.declared.refusal.Rule.{Rule}
 use mathlib.Core.Path.{◌≡◌, refl, ap, ◌∙◌}
 use mathlib.Core.Bool.{Bool, true, false}
 use mathlib.Core.List.{List, [], ◌∷◌, ◌++◌}
@@ -12,7 +13,7 @@ use lib.Ieee.Bits.{of_bits-fits}
 use Rattle.encoding.proofs.FieldBytes.{double_within}
 use Rattle.rules.specs.Limits.{max_nested, max_breaks, max_objects, max_bonus}
 use Rattle.numbers.specs.Words.{word_at}
-use Rattle.rules.specs.Refusals.{good, refused, pick}
+use Rattle.rules.specs.Refusals.{good, refused, pick, CUT, COUNT, MARK, PLAY_FIELD, BONUS}
 use Rattle.records.specs.Fields.{timed, set, setting_of}
 use Rattle.records.specs.Objects.{bonus}
 use Rattle.records.specs.Records.{Content, header, break, object, play, FoundRecord, CI, SL, SP, header_of, break_of, circle_of, nested_of, slider_of, spinner_of, play_of, object_of, content_view}
@@ -54,26 +55,26 @@ FoundWithin f = ContentWithin f.0
 header-within : (r : List ℕ) → All FoundWithin (header_of r)
 unfolding header_of
 header-within r =
-    all_when 2 _ _ (λ _. all_bind _ _ (setting_all (word_at r 2 4)) (λ hp a. all_bind _ _ (setting_all (word_at r 6 4)) (λ od b. all_bind _ _ (setting_all (word_at r 10 4)) (λ cs c. that (record { hp = a; od = b; cs = c })))))
+    all_when CUT _ _ (λ _. all_bind _ _ (setting_all (word_at r 2 4)) (λ hp a. all_bind _ _ (setting_all (word_at r 6 4)) (λ od b. all_bind _ _ (setting_all (word_at r 10 4)) (λ cs c. that (record { hp = a; od = b; cs = c })))))
 
 break-within : (r : List ℕ) → All FoundWithin (break_of r)
 unfolding break_of
-break-within r = all_when 2 _ _ (λ _. all_bind _ _ (within_all _ _ (word_at r 2 8)) (λ x a. all_bind _ _ (within_all _ _ (word_at r 10 8)) (λ y b. that (record { start = a; end = b }))))
+break-within r = all_when CUT _ _ (λ _. all_bind _ _ (within_all _ _ (word_at r 2 8)) (λ x a. all_bind _ _ (within_all _ _ (word_at r 10 8)) (λ y b. that (record { start = a; end = b }))))
 
 circle-within : (r : List ℕ) → All FoundWithin (circle_of r)
 unfolding circle_of
-circle-within r = all_when 2 _ _ (λ _. all_bind _ _ (within_all _ _ (word_at r 2 8)) (λ x a. that (record { start = a; kind = tt })))
+circle-within r = all_when CUT _ _ (λ _. all_bind _ _ (within_all _ _ (word_at r 2 8)) (λ x a. that (record { start = a; kind = tt })))
 
 spinner-within : (r : List ℕ) → All FoundWithin (spinner_of r)
 unfolding spinner_of
-spinner-within r = all_when 2 _ _ (λ _. all_bind _ _ (within_all _ _ (word_at r 2 8)) (λ x a. all_bind _ _ (within_all _ _ (word_at r 10 8)) (λ d b. that (record { start = a; kind = b }))))
+spinner-within r = all_when CUT _ _ (λ _. all_bind _ _ (within_all _ _ (word_at r 2 8)) (λ x a. all_bind _ _ (within_all _ _ (word_at r 10 8)) (λ d b. that (record { start = a; kind = b }))))
 
 slider-within : (r : List ℕ) → All FoundWithin (slider_of r)
 unfolding slider_of
 slider-within r =
     let n = word_at r 10 2 in
     let l = drop 12 r in
-    all_when 2 _ _ (λ _. all_bind _ _ (within_all _ _ (word_at r 2 8)) (λ x a. all_when 6 _ _ (λ few. all_when 2 _ _ (λ _.
+    all_when CUT _ _ (λ _. all_bind _ _ (within_all _ _ (word_at r 2 8)) (λ x a. all_when COUNT _ _ (λ few. all_when CUT _ _ (λ _.
     all_bind (nested_of (take n l)) _ (nested_are (take n l)) (λ is q.
     let low : n ≤ max_nested = ltb-false max_nested n few in
     let count = ap length q ∙ nested_length is in
@@ -82,7 +83,7 @@ slider-within r =
 
 play-within : (r : List ℕ) → All FoundWithin (play_of r)
 unfolding play_of
-play-within r = all_when 2 _ _ (λ _. all_any _ _ (λ o. all_any _ _ (λ s. all_when 8 _ _ (λ _. all_any _ _ (λ x. that tt)))))
+play-within r = all_when CUT _ _ (λ _. all_any _ _ (λ o. all_any _ _ (λ s. all_when PLAY_FIELD _ _ (λ _. all_any _ _ (λ x. that tt)))))
 
 pub object_within : (r : List ℕ) (m : ℕ) → All FoundWithin (object_of r m)
 unfolding object_of
@@ -95,7 +96,7 @@ body_within r m = all_pick (eqb m MH) (λ _. header-within r) (λ _. all_pick (e
 record_within : (r : List ℕ) (c : Counts) → All FoundWithin (record_of r c)
 unfolding record_of
 record_within r c =
-    all_when 2 _ _ (λ _. all_when 3 _ _ (λ _. all_when 6 _ _ (λ _. all_bind (body_of r (word_at r 0 2)) _ (body_within r (word_at r 0 2)) (λ f h. all_when 7 _ _ (λ _. that h)))))
+    all_when CUT _ _ (λ _. all_when MARK _ _ (λ _. all_when COUNT _ _ (λ _. all_bind (body_of r (word_at r 0 2)) _ (body_within r (word_at r 0 2)) (λ f h. all_when BONUS _ _ (λ _. that h)))))
 
 -- ---- what was read
 pub record FileWithin (f : File) : Type 0 where
@@ -155,12 +156,12 @@ found_within s f w =
 -- ---- the whole file
 pub data IfAccepted (P : File → Type 0) : Result → Type 0 where
   yes : {f : File} → P f → IfAccepted P (accepted f)
-  no : {n at : ℕ} {f : File} → IfAccepted P (refused_at n at f)
+  no : {n : Rule} {at : ℕ} {f : File} → IfAccepted P (refused_at n at f)
 
 ended-within : (f : File) → FileWithin f → IfAccepted (λ g. MapWithin g.map) (ended f)
 ended-within f w = go (eqb f.last 0) refl
   where
-    go : (b : Bool) → eqb f.last 0 ≡ b → IfAccepted (λ g. MapWithin g.map) (pick b (refused_at 3 0 f) (accepted f))
+    go : (b : Bool) → eqb f.last 0 ≡ b → IfAccepted (λ g. MapWithin g.map) (pick b (refused_at MARK 0 f) (accepted f))
     go true e = no
     go false e =
         let some : 0 < f.last = (let ne = eqb-false f.last 0 e in omega (arith, ne)) in

@@ -1,4 +1,5 @@
 -- A field that was written is read back: one law over the list of a record's fields.
+use Rattle.std.specs.Prelude.{Option}
 use mathlib.Core.Path.{◌≡◌, refl, ap, ◌∙◌}
 use mathlib.Core.Bool.{Bool, true, false, ◌&&◌}
 use mathlib.Core.List.{List, [], ◌∷◌, ◌++◌, append_assoc}
@@ -8,8 +9,7 @@ use borrow.Author.Tests.{eqb-true}
 use lib.Dec.{T, eqb, leb, eqb→eq, leb→le}
 use lib.ListN.{length, length-append}
 use lib.Ieee.{Float}
-use Rattle.records.specs.declared.fields.Double.{Double}
-use Rattle.records.specs.Fields.{within, double_if}
+use Rattle.records.specs.Fields.{within, if_in}
 use Rattle.numbers.specs.Words.{word_at, bytes_of}
 use Rattle.numbers.proofs.words.Laws.{word_at_bytes, word_at_skip, bytes_of-length}
 use Rattle.rules.specs.Refusals.{pick}
@@ -67,5 +67,5 @@ unfolding fields_of
 mark_back m fs rest h = rw append_assoc (word_at_bytes 2 m (fields_of fs ++ rest) h)
 
 -- a float field that is held to a range: times and durations
-abbrev pub double_within : Float → Float → Float → Double
-double_within low high x = double_if (within low high x) x
+abbrev pub double_within : Float → Float → Float → Option Float
+double_within low high x = if_in (within low high x) x

@@ -13,7 +13,7 @@ use lib.ListN.{length, take, drop}
 use lib.Seq.{take-add, take_all, get_or-drop}
 use Rattle.numbers.specs.Words.{word_at}
 use Rattle.numbers.proofs.words.Laws.{Bytes, word_at_lt}
-use Rattle.rules.specs.Refusals.{good, refused, pick}
+use Rattle.rules.specs.Refusals.{good, refused, pick, CUT, MARK, PLAY_FIELD, COUNT, BONUS}
 use Rattle.rules.proofs.All.{All, that, all_bind, all_any, all_when, all_pick, all_out}
 use Rattle.rules.proofs.All as checked
 use Rattle.play_state.specs.Play.{score_of, score_checked, hitresults_of}
@@ -51,8 +51,8 @@ first c m (play s) p q = tt
 record_first : (r : List ℕ) (c : Counts) → All (λ f. First c f.0) (record_of r c)
 unfolding record_of
 record_first r c =
-    all_when 2 _ _ (λ _. all_when 3 _ _ (λ order. all_when 6 _ _ (λ _.
-    all_bind (body_of r (word_at r 0 2)) _ (body_placed r (word_at r 0 2)) (λ f h. all_when 7 _ _ (λ _. that (first c (word_at r 0 2) f.0 h (not-false _ order)))))))
+    all_when CUT _ _ (λ _. all_when MARK _ _ (λ order. all_when COUNT _ _ (λ _.
+    all_bind (body_of r (word_at r 0 2)) _ (body_placed r (word_at r 0 2)) (λ f h. all_when BONUS _ _ (λ _. that (first c (word_at r 0 2) f.0 h (not-false _ order)))))))
 
 -- ---- a play that was read is within its limits
 abbrev PlayFields : Content → Type 0
@@ -85,8 +85,8 @@ module _ (r : List ℕ) (b : Bytes r) where
   play_fields_lem : All (λ f. PlayFields f.0) (play_of r)
   unfolding play_of hitresults_of
   play_fields_lem =
-      all_when 2 _ _ (λ _. all_any _ _ (λ o. all_bind _ _ (score_within (word_at r 29 1) (word_at r 30 4) (word_at_lt r 30 4 b)) (λ s sw.
-      all_when 8 _ _ (λ known. all_bind _ _ (rate_within (word_at r 36 8)) (λ x rate.
+      all_when CUT _ _ (λ _. all_any _ _ (λ o. all_bind _ _ (score_within (word_at r 29 1) (word_at r 30 4) (word_at_lt r 30 4 b)) (λ s sw.
+      all_when PLAY_FIELD _ _ (λ known. all_bind _ _ (rate_within (word_at r 36 8)) (λ x rate.
       that (record {
         sized = record {
           passed = word_at_lt r 2 2 b;
@@ -109,17 +109,17 @@ module _ (r : List ℕ) (b : Bytes r) where
   body_fields : (m : ℕ) → All (λ f. PlayFields f.0) (body_of r m)
   unfolding body_of header_of break_of object_of circle_of slider_of spinner_of
   body_fields m =
-      all_pick (eqb m MH) (λ _. all_when 2 _ _ (λ _. all_any _ _ (λ hp. all_any _ _ (λ od. all_any _ _ (λ cs. that tt))))) (λ _.
-      all_pick (eqb m BR) (λ _. all_when 2 _ _ (λ _. all_any _ _ (λ x. all_any _ _ (λ y. that tt)))) (λ _.
+      all_pick (eqb m MH) (λ _. all_when CUT _ _ (λ _. all_any _ _ (λ hp. all_any _ _ (λ od. all_any _ _ (λ cs. that tt))))) (λ _.
+      all_pick (eqb m BR) (λ _. all_when CUT _ _ (λ _. all_any _ _ (λ x. all_any _ _ (λ y. that tt)))) (λ _.
       all_pick (eqb m PL) (λ _. play_fields_lem) (λ _.
-      all_pick (eqb m CI) (λ _. all_when 2 _ _ (λ _. all_any _ _ (λ x. that tt))) (λ _.
-      all_pick (eqb m SL) (λ _. all_when 2 _ _ (λ _. all_any _ _ (λ x. all_when 6 _ _ (λ _. all_when 2 _ _ (λ _. all_any _ _ (λ is. that tt)))))) (λ _.
-      all_pick (eqb m SP) (λ _. all_when 2 _ _ (λ _. all_any _ _ (λ x. all_any _ _ (λ d. that tt)))) (λ _. checked.none))))))
+      all_pick (eqb m CI) (λ _. all_when CUT _ _ (λ _. all_any _ _ (λ x. that tt))) (λ _.
+      all_pick (eqb m SL) (λ _. all_when CUT _ _ (λ _. all_any _ _ (λ x. all_when COUNT _ _ (λ _. all_when CUT _ _ (λ _. all_any _ _ (λ is. that tt)))))) (λ _.
+      all_pick (eqb m SP) (λ _. all_when CUT _ _ (λ _. all_any _ _ (λ x. all_any _ _ (λ d. that tt)))) (λ _. checked.none))))))
 
   record_fields : (c : Counts) → All (λ f. PlayFields f.0) (record_of r c)
   unfolding record_of
   record_fields c =
-      all_when 2 _ _ (λ _. all_when 3 _ _ (λ _. all_when 6 _ _ (λ _. all_bind (body_of r (word_at r 0 2)) _ (body_fields (word_at r 0 2)) (λ f h. all_when 7 _ _ (λ _. that h)))))
+      all_when CUT _ _ (λ _. all_when MARK _ _ (λ _. all_when COUNT _ _ (λ _. all_bind (body_of r (word_at r 0 2)) _ (body_fields (word_at r 0 2)) (λ f h. all_when BONUS _ _ (λ _. that h)))))
 
 -- ---- what was read so far
 record Held (s : List ℕ) (f : File) : Type 0 where
@@ -204,7 +204,7 @@ module _ (s : List ℕ) (b : Bytes s) where
   ended-whole : (f : File) → length s ≤ f.at → Held s f → Whole (ended f)
   ended-whole f all h = go (eqb f.last 0) refl
     where
-      go : (t : Bool) → eqb f.last 0 ≡ t → Whole (pick t (refused_at 3 0 f) (accepted f))
+      go : (t : Bool) → eqb f.last 0 ≡ t → Whole (pick t (refused_at MARK 0 f) (accepted f))
       go true e = no
       go false e =
           let some : 0 < f.last = (let ne = eqb-false f.last 0 e in omega (arith, ne)) in

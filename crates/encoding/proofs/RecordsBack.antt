@@ -1,4 +1,5 @@
 -- Each record that was written is read back as it was, whatever follows it.
+use Rattle.std.specs.Prelude.{Option, Some, None}
 use mathlib.Core.Path.{◌≡◌, refl, ap, ◌∙◌}
 use mathlib.Core.Bool.{Bool, true, false, not, ◌&&◌, ◌||◌}
 use mathlib.Core.List.{List, [], ◌∷◌, ◌++◌, append_assoc}
@@ -11,7 +12,7 @@ use lib.Seq.{take_at, drop_at}
 use lib.Ieee.{Float, binary32, binary64, fits, of_bits, to_bits, lt, le}
 use Rattle.rules.specs.Limits.{max_nested}
 use Rattle.numbers.proofs.bits.Laws.{written_read, written_lt}
-use Rattle.rules.specs.Refusals.{Checked, good, ◌>>=◌, ◌>>◌, refuse◌when◌, pick}
+use Rattle.rules.specs.Refusals.{Checked, good, ◌>>=◌, ◌>>◌, refuse◌when◌, pick, PLAY_FIELD}
 use Rattle.records.specs.Fields.{setting_of, played}
 use Rattle.records.specs.Objects.{Item, tick, repeat, circle, slider, spinner}
 use Rattle.records.specs.Records.{header, break, object, play, header_of, break_of, circle_of, item_of, nested_of, slider_of, spinner_of, play_of}
@@ -22,13 +23,7 @@ use Rattle.records.specs.declared.beatmap.Settings.{Settings}
 use Rattle.records.specs.declared.beatmap.BreakPeriod.{BreakPeriod}
 use Rattle.play_state.specs.declared.OsuScoreOrigin.{OsuScoreOrigin}
 use Rattle.play_state.specs.declared.OsuScoreOrigin.TheVariants.{Stable, WithSliderAcc, WithoutSliderAcc}
-use Rattle.play_state.specs.declared.LegacyTotalScore.{LegacyTotalScore}
-use Rattle.play_state.specs.declared.LegacyTotalScore.TheVariants.{Absent, Present}
-use Rattle.play_state.specs.declared.Origin.TheVariants as origin
-use Rattle.play_state.specs.declared.Score.TheVariants as score
 use Rattle.play_state.specs.declared.Play.{Play}
-use Rattle.records.specs.declared.fields.Double.TheVariants as double
-use Rattle.records.specs.declared.fields.Single.TheVariants as single
 use Rattle.encoding.proofs.FieldBytes.{Fit, widths, fields_length, field_back, double_within}
 
 -- ---- floats
@@ -39,10 +34,10 @@ fits_double x h = written_lt binary64 x h
 fits_single : (x : Float) → T (fits binary32 x) → to_bits binary32 x < 256 ^ 4
 fits_single x h = written_lt binary32 x h
 
-within-double : (low high x : Float) → Within binary64 low high x → double_within low high (of_bits binary64 (to_bits binary64 x)) ≡ double.Is x
+within-double : (low high x : Float) → Within binary64 low high x → double_within low high (of_bits binary64 (to_bits binary64 x)) ≡ Some x
 within-double low high x w = rw (written_read binary64 x w.held) (simp (w.above, w.below))
 
-setting_back : (x : Float) → IsSetting x → setting_of (to_bits binary32 x) ≡ single.Is x
+setting_back : (x : Float) → IsSetting x → setting_of (to_bits binary32 x) ≡ Some x
 setting_back x w = rw (written_read binary32 x w.held) (simp (w.above, w.below))
 
 -- a whole fixed part is there
@@ -118,27 +113,27 @@ slider_back x is rest w few =
     (simp (there fs l 12 (omega arith), field_back fs l 2 8 ok tt, within-double _ _ _ w, field_back fs l 10 2 ok tt, le-ltb max_nested n few, le-ltb _ _ whole, part, nested_back is))
 
 -- ---- plays
-origin_back : (o : OsuScoreOrigin) → origin_of (origin_byte o) ≡ origin.Is o
+origin_back : (o : OsuScoreOrigin) → origin_of (origin_byte o) ≡ Some o
 origin_back Stable = refl
 origin_back WithSliderAcc = refl
 origin_back WithoutSliderAcc = refl
 
-score_back : (s : LegacyTotalScore) → score_of (present_byte s) (score_number s) ≡ score.Is s
-score_back Absent = refl
-score_back (Present n) = refl
+score_back : (s : Option ℕ) → score_of (present_byte s) (score_number s) ≡ Some s
+score_back None = refl
+score_back (Some n) = refl
 
 origin_fits : (o : OsuScoreOrigin) → origin_byte o < 256 ^ 1
 origin_fits Stable = lit< tt
 origin_fits WithSliderAcc = lit< tt
 origin_fits WithoutSliderAcc = lit< tt
 
-present_fits : (s : LegacyTotalScore) → present_byte s < 256 ^ 1
-present_fits Absent = lit< tt
-present_fits (Present n) = lit< tt
+present_fits : (s : Option ℕ) → present_byte s < 256 ^ 1
+present_fits None = lit< tt
+present_fits (Some n) = lit< tt
 
-score_fits : (s : LegacyTotalScore) → ScoreWithin s → score_number s < 256 ^ 4
-score_fits Absent w = lit< tt
-score_fits (Present n) w = w
+score_fits : (s : Option ℕ) → ScoreWithin s → score_number s < 256 ^ 4
+score_fits None w = lit< tt
+score_fits (Some n) w = w
 
 play_fit : (p : Play) → PlaySized p → Fit (play_fields p)
 play_fit p w =
@@ -146,7 +141,7 @@ play_fit p w =
 
 -- the checks of flags and clock rate as one test
 mods_checked : {A : Type 0} (bad within : Bool) (x : Float) (k : Float → Checked A)
-    → ((refuse 8 when bad) >> (played (pick within (double.Is x) double.Bad) >>= k)) ≡ ((refuse 8 when (bad || not within)) >> k x)
+    → ((refuse PLAY_FIELD when bad) >> (played (pick within (Some x) None) >>= k)) ≡ ((refuse PLAY_FIELD when (bad || not within)) >> k x)
 unfolding ◌>>=◌ ◌>>◌ refuse◌when◌
 mods_checked true within x k = refl
 mods_checked false true x k = refl
@@ -166,7 +161,7 @@ at_rate p x = record {
 -- A play whose fields have the widths of its record gets 8 for its flags and its clock rate alone, and is read back else.
 pub play_read : (p : Play) (rest : List ℕ) → PlaySized p → let x = p.mods.clock_rate in
     play_of (play_bytes p ++ rest)
-    ≡ ((refuse 8 when (flags_bad p.mods.flags || not (lt (of_bits binary64 0) x && le x (of_bits binary64 0x4059000000000000)))) >> good (play p, 44))
+    ≡ ((refuse PLAY_FIELD when (flags_bad p.mods.flags || not (lt (of_bits binary64 0) x && le x (of_bits binary64 0x4059000000000000)))) >> good (play p, 44))
 unfolding play_of play_bytes hitresults_of ◌>>=◌ ◌>>◌ refuse◌when◌
 play_read p rest w =
     let fs = play_fields p in

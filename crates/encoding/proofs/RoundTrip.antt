@@ -1,5 +1,6 @@
 -- The file of every map within the limits, with plays within theirs behind it, is read back as that map and those plays: each record is found
 -- in its turn, and what was read grows by it.
+use Rattle.rules.specs.declared.refusal.Rule.{Rule}
 use mathlib.Core.Path.{◌≡◌, refl, sym, ap, ap₂, ◌∙◌, subst}
 use mathlib.Core.Bool.{true, false}
 use mathlib.Core.List.{List, [], ◌∷◌, ◌++◌, append_assoc, append-nil}
@@ -11,7 +12,7 @@ use lib.ListN.{length, drop, length-append, length-drop}
 use lib.Seq.{drop-drop, drop_at}
 use Rattle.rules.specs.Limits.{max_bonus, max_breaks, max_objects}
 use Rattle.numbers.specs.Words.{word_at}
-use Rattle.rules.specs.Refusals.{good, refused, ◌>>=◌, ◌>>◌, refuse◌when◌}
+use Rattle.rules.specs.Refusals.{good, refused, ◌>>=◌, ◌>>◌, refuse◌when◌, BONUS}
 use Rattle.records.specs.Objects.{circle, slider, spinner, Kind, Object, bonus, kind_bonus}
 use Rattle.records.specs.Records.{Content, header, break, object, play, CI, SL, SP, object_of, play_of}
 use Rattle.map_file.specs.Order.{MH, BR, PL, rank_of, in_order, is_full, content_bonus, body_of, record_of}
@@ -421,13 +422,13 @@ map_end m rest k some =
     let all = length-append (map_file m) rest in
     (omega (arith, here, left, some), omega (arith, here, left, all, some))
 
-pub record RefusedBehind (m : Map) (n : ℕ) (s : List ℕ) : Type 0 where
+pub record RefusedBehind (m : Map) (n : Rule) (s : List ℕ) : Type 0 where
   pub file : File
   pub read : file_of s ≡ refused_at n (length (map_file m)) file
   pub map_back : file.map ≡ m
   pub no_plays : file.plays ≡ []
 
-refused_behind : (m : Map) (rest : List ℕ) (n : ℕ) → MapWithin m → 0 < length rest
+refused_behind : (m : Map) (rest : List ℕ) (n : Rule) → MapWithin m → 0 < length rest
     → ((f : File) → Ready f 3 → f.map ≡ m → record_of rest (counts_of f) ≡ refused n)
     → RefusedBehind m n (map_file m ++ rest)
 refused_behind m rest n w some bad =
@@ -446,12 +447,12 @@ refused_behind m rest n w some bad =
 -- ---- number 7: a spinner that takes the bonus above its limit is refused at its own offset, whatever stands behind it
 record_over : (r : List ℕ) (c : Counts) (m : ℕ) (x : Content) (n : ℕ) → 2 ≤ length r → word_at r 0 2 ≡ m
     → in_order c.last (rank_of m) ≡ true → is_full c (rank_of m) ≡ false → body_of r m ≡ good (x, n) → max_bonus < c.bonus + content_bonus x
-    → record_of r c ≡ refused 7
+    → record_of r c ≡ refused BONUS
 unfolding record_of ◌>>=◌ ◌>>◌ refuse◌when◌
 record_over r c m x n two mark order room body high = simp (le-ltb _ _ two, mark, order, room, body, lt-ltb _ _ high)
 
 object_over : (f : File) (o : Object) (rest : List ℕ) → Ready f 3 → length f.map.objects < max_objects → max_bonus < bonus f.map.objects + kind_bonus o.kind → ObjectWithin o
-    → record_of (object_bytes o ++ rest) (counts_of f) ≡ refused 7
+    → record_of (object_bytes o ++ rest) (counts_of f) ≡ refused BONUS
 unfolding counts_of
 object_over f o rest r room high w =
     let k = marked o rest w in
@@ -460,29 +461,29 @@ object_over f o rest r room high w =
     (k.body ∙ k.back) high
 
 pub over_bonus_lem : (m : Map) (o : Object) (rest : List ℕ) → MapWithin m → ObjectWithin o → length m.objects < max_objects → max_bonus < bonus m.objects + kind_bonus o.kind
-    → RefusedBehind m 7 (map_file m ++ (object_bytes o ++ rest))
+    → RefusedBehind m BONUS (map_file m ++ (object_bytes o ++ rest))
 over_bonus_lem m o rest w v room high =
     let two = two_bytes (object_bytes o) rest (object_two o) in
-    refused_behind m (object_bytes o ++ rest) 7 w (omega (arith, two)) (λ f r e.
+    refused_behind m (object_bytes o ++ rest) BONUS w (omega (arith, two)) (λ f r e.
     object_over f o rest r
     (subst (λ (n : Map). length n.objects < max_objects) (sym e) room)
     (subst (λ (n : Map). max_bonus < bonus n.objects + kind_bonus o.kind) (sym e) high) v)
 
 -- ---- a play that is put after the map: refused for a field of its own at its own offset, or the file's only play
-record_refused : (r : List ℕ) (c : Counts) (m n : ℕ) → 2 ≤ length r → word_at r 0 2 ≡ m
+record_refused : (r : List ℕ) (c : Counts) (m : ℕ) (n : Rule) → 2 ≤ length r → word_at r 0 2 ≡ m
     → in_order c.last (rank_of m) ≡ true → is_full c (rank_of m) ≡ false → body_of r m ≡ refused n
     → record_of r c ≡ refused n
 unfolding record_of ◌>>=◌ ◌>>◌ refuse◌when◌
 record_refused r c m n two mark order room body = simp (le-ltb _ _ two, mark, order, room, body)
 
-play_refused : (f : File) (p : Play) (rest : List ℕ) (n : ℕ) → Ready f 4 → play_of (play_bytes p ++ rest) ≡ refused n
+play_refused : (f : File) (p : Play) (rest : List ℕ) (n : Rule) → Ready f 4 → play_of (play_bytes p ++ rest) ≡ refused n
     → record_of (play_bytes p ++ rest) (counts_of f) ≡ refused n
 unfolding body_of counts_of
 play_refused f p rest n r e =
     record_refused (play_bytes p ++ rest) (counts_of f) PL n (play-two p rest) (play_mark p rest)
     (in_order_lem f.last 4 (lit< tt) r.begun r.early) refl e
 
-pub refused_play : (m : Map) (p : Play) (rest : List ℕ) (n : ℕ) → MapWithin m → play_of (play_bytes p ++ rest) ≡ refused n
+pub refused_play : (m : Map) (p : Play) (rest : List ℕ) (n : Rule) → MapWithin m → play_of (play_bytes p ++ rest) ≡ refused n
     → RefusedBehind m n (map_file m ++ (play_bytes p ++ rest))
 refused_play m p rest n w e =
     let two = play-two p rest in

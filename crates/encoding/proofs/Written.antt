@@ -13,7 +13,7 @@ use lib.ListN.{length, take, drop, length-drop}
 use lib.Seq.{take-add, drop-drop, length-take-le}
 use Rattle.numbers.specs.Words.{word_at, bytes_of}
 use Rattle.numbers.proofs.words.Laws.{Bytes, word_at_lt, bytes_of-word_at}
-use Rattle.rules.specs.Refusals.{good}
+use Rattle.rules.specs.Refusals.{good, CUT, COUNT, MARK, PLAY_FIELD, BONUS}
 use Rattle.rules.proofs.All.{All, none, that, all_bind, all_when, all_pick, all_out}
 use Rattle.play_state.specs.Play.{origin_of, score_of, origin_checked, score_checked, hitresults_of}
 use Rattle.records.specs.Fields.{timed, set, setting_of, setting_limit, rate_of, rate_limit, played}
@@ -129,14 +129,14 @@ module _ (r : List ℕ) (b : Bytes r) where
   circle_written : word_at r 0 2 ≡ CI → All (Written r) (circle_of r)
   unfolding circle_of object_bytes
   circle_written m =
-      all_when 2 _ _ (λ cut. let long = ltb-false (length r) 10 cut in
+      all_when CUT _ _ (λ cut. let long = ltb-false (length r) 10 cut in
       all_bind _ _ (double_all _ _ 2) (λ x e.
       that (fields_are r b (circle_fields x) 0 long (m, (e, tt)))))
 
   spinner_written : word_at r 0 2 ≡ SP → All (Written r) (spinner_of r)
   unfolding spinner_of object_bytes
   spinner_written m =
-      all_when 2 _ _ (λ cut. let long = ltb-false (length r) 18 cut in
+      all_when CUT _ _ (λ cut. let long = ltb-false (length r) 18 cut in
       all_bind _ _ (double_all _ _ 2) (λ x e. all_bind _ _ (double_all _ _ 10) (λ d f.
       that (fields_are r b (spinner_fields x d) 0 long (m, (e, (f, tt)))))))
 
@@ -145,8 +145,8 @@ module _ (r : List ℕ) (b : Bytes r) where
   slider_written m =
       let n = word_at r 10 2 in
       let l = drop 12 r in
-      all_when 2 _ _ (λ cut. let long = ltb-false (length r) 12 cut in
-      all_bind _ _ (double_all _ _ 2) (λ x e. all_when 6 _ _ (λ _. all_when 2 _ _ (λ short.
+      all_when CUT _ _ (λ cut. let long = ltb-false (length r) 12 cut in
+      all_bind _ _ (double_all _ _ 2) (λ x e. all_when COUNT _ _ (λ _. all_when CUT _ _ (λ short.
       all_bind (nested_of (take n l)) _ (nested_are (take n l)) (λ is q.
       let whole = ltb-false (length r) (12 + n) short in
       let there : length (take n l) ≡ n = length-take-le n l (let h = length-drop 12 r in omega (arith, h, whole)) in
@@ -156,7 +156,7 @@ module _ (r : List ℕ) (b : Bytes r) where
   break_written : word_at r 0 2 ≡ BR → All (Written r) (break_of r)
   unfolding break_of break_bytes
   break_written m =
-      all_when 2 _ _ (λ cut. let long = ltb-false (length r) 18 cut in
+      all_when CUT _ _ (λ cut. let long = ltb-false (length r) 18 cut in
       all_bind _ _ (double_all _ _ 2) (λ x e. all_bind _ _ (double_all _ _ 10) (λ y f.
       that (fields_are r b (break_fields (record { start_time = x; end_time = y })) 0 long (m, (e, (f, tt)))))))
 
@@ -166,16 +166,16 @@ module _ (r : List ℕ) (b : Bytes r) where
   header_written : word_at r 0 2 ≡ MH → All (Written r) (header_of r)
   unfolding header_of header_bytes
   header_written m =
-      all_when 2 _ _ (λ cut. let long = ltb-false (length r) 14 cut in
+      all_when CUT _ _ (λ cut. let long = ltb-false (length r) 14 cut in
       all_bind _ _ (single_all 2) (λ hp e. all_bind _ _ (single_all 6) (λ od f. all_bind _ _ (single_all 10) (λ cs g.
       that (fields_are r b (header_fields (record { hp = hp; od = od; cs = cs })) 0 long (m, (e, (f, (g, tt)))))))))
 
   play_written : word_at r 0 2 ≡ PL → All (Written r) (play_of r)
   unfolding play_of play_bytes hitresults_of
   play_written m =
-      all_when 2 _ _ (λ cut. let long = ltb-false (length r) 44 cut in
+      all_when CUT _ _ (λ cut. let long = ltb-false (length r) 44 cut in
       all_bind _ _ (origin_is (word_at r 28 1)) (λ o e. all_bind _ _ (score_is (word_at r 29 1) (word_at r 30 4)) (λ s f.
-      all_when 8 _ _ (λ _. all_bind _ _ (rate_bits (word_at r 36 8) (word_at_lt r 36 8 b)) (λ x g.
+      all_when PLAY_FIELD _ _ (λ _. all_bind _ _ (rate_bits (word_at r 36 8) (word_at_lt r 36 8 b)) (λ x g.
       that (fields_are r b (play_fields (record { passed_objects = word_at r 2 2; max_combo = word_at r 4 4; hitresults = hitresults_of r; origin = o; legacy_total_score = s; mods = record { flags = word_at r 34 2; clock_rate = x } })) 0 long (m, (refl, (refl, (refl, (refl, (refl, (refl, (refl, (refl, (refl, (e, (f.0, (f.1, (refl, (g, tt)))))))))))))))))))))
 
   object_written : All (Written r) (object_of r (word_at r 0 2))
@@ -195,7 +195,7 @@ module _ (r : List ℕ) (b : Bytes r) where
   pub record_written : (c : Counts) → All (Written r) (record_of r c)
   unfolding record_of
   record_written c =
-      all_when 2 _ _ (λ _. all_when 3 _ _ (λ _. all_when 6 _ _ (λ _. all_bind (body_of r (word_at r 0 2)) _ body_written (λ f h. all_when 7 _ _ (λ _. that h)))))
+      all_when CUT _ _ (λ _. all_when MARK _ _ (λ _. all_when COUNT _ _ (λ _. all_bind (body_of r (word_at r 0 2)) _ body_written (λ f h. all_when BONUS _ _ (λ _. that h)))))
 
 pub object_bytes_lem : (r : List ℕ) (o : Object) (n : ℕ) → Bytes r → object_of r (word_at r 0 2) ≡ good (object o, n) → take n r ≡ object_bytes o
 object_bytes_lem r o n b e = all_out (subst (All (Written r)) e (object_written r b))

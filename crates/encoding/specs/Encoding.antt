@@ -1,5 +1,5 @@
 -- The file of a map and the record of a play: document 01's layouts, written.
-use Rattle.std.specs.Prelude.{ℕ, ◌+◌, List, [], ◌∷◌, ◌++◌, length, Float}
+use Rattle.std.specs.Prelude.{ℕ, ◌+◌, List, [], ◌∷◌, ◌++◌, length, Float, Option, Some, None}
 use Rattle.std.specs.Float.{binary32, binary64}
 use Rattle.std.specs.Float.Ieee.{to_bits}
 use Rattle.numbers.specs.Words.{bytes_of}
@@ -11,8 +11,6 @@ use Rattle.records.specs.declared.beatmap.Settings.{Settings}
 use Rattle.records.specs.declared.beatmap.BreakPeriod.{BreakPeriod}
 use Rattle.play_state.specs.declared.OsuScoreOrigin.{OsuScoreOrigin}
 use Rattle.play_state.specs.declared.OsuScoreOrigin.TheVariants.{Stable, WithSliderAcc, WithoutSliderAcc}
-use Rattle.play_state.specs.declared.LegacyTotalScore.{LegacyTotalScore}
-use Rattle.play_state.specs.declared.LegacyTotalScore.TheVariants.{Absent, Present}
 use Rattle.play_state.specs.declared.Play.{Play}
 
 -- a list of fields, each a width in bytes and a number
@@ -49,13 +47,13 @@ origin_byte WithSliderAcc = 1
 origin_byte WithoutSliderAcc = 2
 
 -- "score present u8 (0 or 1); score u32 (0 if absent)"
-abbrev pub present_byte : LegacyTotalScore → ℕ
-present_byte Absent = 0
-present_byte (Present n) = 1
+abbrev pub present_byte : Option ℕ → ℕ
+present_byte None = 0
+present_byte (Some n) = 1
 
-abbrev pub score_number : LegacyTotalScore → ℕ
-score_number Absent = 0
-score_number (Present n) = n
+abbrev pub score_number : Option ℕ → ℕ
+score_number None = 0
+score_number (Some n) = n
 
 abbrev pub play_fields : Play → List (ℕ × ℕ)
 play_fields p =

@@ -1,5 +1,5 @@
 -- The maps and plays within document 01's limits: those whose file the library accepts (proofs/RoundTrip and proofs/Accepted).
-use Rattle.std.specs.Prelude.{◌+◌, ◌≤◌, ◌<◌, ◌^◌, ◌≡◌, true, false, List, [], ◌∷◌, T, length, Float}
+use Rattle.std.specs.Prelude.{ℕ, ◌+◌, ◌≤◌, ◌<◌, ◌^◌, ◌≡◌, true, false, List, [], ◌∷◌, T, length, Float, Option, Some, None}
 use Rattle.std.specs.Float.{Format, binary32, binary64}
 use Rattle.std.specs.Float.Ieee.{fits, of_bits, neg, lt, le}
 use Rattle.rules.specs.Limits.{max_nested, max_breaks, max_objects, max_bonus}
@@ -10,8 +10,6 @@ use Rattle.map_file.specs.File.{Map}
 use Rattle.records.specs.declared.beatmap.Settings.{Settings}
 use Rattle.records.specs.declared.beatmap.BreakPeriod.{BreakPeriod}
 use Rattle.play_state.specs.declared.OsuHitResults.{OsuHitResults}
-use Rattle.play_state.specs.declared.LegacyTotalScore.{LegacyTotalScore}
-use Rattle.play_state.specs.declared.LegacyTotalScore.TheVariants.{Absent, Present}
 use Rattle.play_state.specs.declared.GameMods.{GameMods}
 use Rattle.play_state.specs.declared.Play.{Play}
 
@@ -75,9 +73,9 @@ pub record HitsWithin (h : OsuHitResults) : Type 0 where
   pub small : h.small_tick_hits < 2 ^ 32
   pub ends : h.slider_end_hits < 2 ^ 32
 
-abbrev pub ScoreWithin : LegacyTotalScore → Type 0
-ScoreWithin Absent = Unit
-ScoreWithin (Present n) = n < 2 ^ 32
+abbrev pub ScoreWithin : Option ℕ → Type 0
+ScoreWithin None = Unit
+ScoreWithin (Some n) = n < 2 ^ 32
 
 -- flags and clock rate in their widths: they may be out of their ranges (8), and the rate infinite or not a number
 pub record ModsSized (m : GameMods) : Type 0 where

@@ -1,5 +1,5 @@
 -- What the test of an entry's limits says, word by word, and that joining two entries within them wraps nowhere.
-use Prim.Native.Nat.{ℕ, zero, suc, ◌+◌, ◌*◌, ◌≤◌, ◌<◌, suc-le-suc}
+use Prim.Native.Nat.{ℕ, zero, suc, ◌+◌, ◌*◌, ◌^◌, ◌≤◌, ◌<◌, suc-le-suc}
 use mathlib.Core.Path.{◌≡◌, refl, sym, ap, ◌∙◌, subst}
 use mathlib.Core.Logic.{◌≢◌}
 use mathlib.Core.Bool.{Bool, true, false, cond, ◌&&◌, false≢true}
@@ -10,7 +10,7 @@ use native.Mathlib.Decide.{ℕ_discrete}
 use lib.Dec.{leb, ltb, eqb, lit<, lit≤}
 use lib.ListN.{length, get_or}
 use borrow.Author.Tests.{leb-true, le-leb}
-use Rattle.rules.specs.Limits.{max_levels, max_combos_before, combo_limit, max_objects}
+use Rattle.rules.specs.Limits.{max_levels, max_combos_before, combo_limit, max_objects, max_bonus}
 use Rattle.entries.specs.Entry.{none, joined, in_limits, all_le, words_of, limit_list, SumOf, entry_words}
 use Rattle.entries.specs.declared.entry.Entry.{Entry}
 use Rattle.rules.proofs.Laws.{and_left, and_right}
@@ -36,6 +36,39 @@ all_le_of t (x ∷ xs) (l ∷ ls) ht g h =
 pub word_le : (e : Entry) → in_limits e ≡ true → (i : ℕ) → i < entry_words → get_or (words_of e) i 0 ≤ get_or limit_list i 0
 unfolding in_limits
 word_le e h = all_le_lem true (words_of e) limit_list h
+
+-- the same by name
+pub record WordsIn (e : Entry) : Type 0 where
+  pub object_count : e.object_count ≤ max_objects
+  pub combo : e.combo ≤ combo_limit
+  pub combos_before : e.combos_before ≤ max_combos_before
+  pub first_no_slider : e.first_no_slider ≤ 1
+  pub accuracy_score : e.accuracy_score ≤ max_bonus
+  pub legacy_bonus_score : e.legacy_bonus_score ≤ max_bonus
+  pub standardised_bonus_score : e.standardised_bonus_score ≤ max_bonus
+  pub n_circles : e.n_circles ≤ max_objects
+  pub n_sliders : e.n_sliders ≤ max_objects
+  pub n_spinners : e.n_spinners ≤ max_objects
+  pub n_repeats : e.n_repeats ≤ combo_limit
+  pub n_ticks : e.n_ticks ≤ combo_limit
+  pub spinner_score : e.spinner_score ≤ max_bonus
+
+pub words_in : (e : Entry) → in_limits e ≡ true → WordsIn e
+words_in e h = record {
+  object_count = word_le e h 0 (lit< tt);
+  combo = word_le e h 1 (lit< tt);
+  combos_before = word_le e h 2 (lit< tt);
+  first_no_slider = word_le e h 3 (lit< tt);
+  accuracy_score = word_le e h 4 (lit< tt);
+  legacy_bonus_score = word_le e h 5 (lit< tt);
+  standardised_bonus_score = word_le e h 6 (lit< tt);
+  n_circles = word_le e h 7 (lit< tt);
+  n_sliders = word_le e h 8 (lit< tt);
+  n_spinners = word_le e h 9 (lit< tt);
+  n_repeats = word_le e h 10 (lit< tt);
+  n_ticks = word_le e h 11 (lit< tt);
+  spinner_score = word_le e h 12 (lit< tt);
+}
 
 pub within_of : (e : Entry) → ((i : ℕ) → i < entry_words → get_or (words_of e) i 0 ≤ get_or limit_list i 0) → in_limits e ≡ true
 unfolding in_limits
@@ -184,6 +217,22 @@ sum_of_led n a b few ha count hb = (at_each 3 first other, combo)
         let y : b.combo ≤ combo_limit = word_le b hb 1 (lit< tt) in
         omega (arith, w, x, y)
 
+-- each word's sum fits 64 bits
+pub record SumsFit (a b : Entry) : Type 0 where
+  pub object_count : a.object_count + b.object_count < 2 ^ 64
+  pub combo : a.combo + b.combo < 2 ^ 64
+  pub combos_before : a.combos_before + b.combos_before < 2 ^ 64
+  pub first_no_slider : a.first_no_slider + b.first_no_slider < 2 ^ 64
+  pub accuracy_score : a.accuracy_score + b.accuracy_score < 2 ^ 64
+  pub legacy_bonus_score : a.legacy_bonus_score + b.legacy_bonus_score < 2 ^ 64
+  pub standardised_bonus_score : a.standardised_bonus_score + b.standardised_bonus_score < 2 ^ 64
+  pub n_circles : a.n_circles + b.n_circles < 2 ^ 64
+  pub n_sliders : a.n_sliders + b.n_sliders < 2 ^ 64
+  pub n_spinners : a.n_spinners + b.n_spinners < 2 ^ 64
+  pub n_repeats : a.n_repeats + b.n_repeats < 2 ^ 64
+  pub n_ticks : a.n_ticks + b.n_ticks < 2 ^ 64
+  pub spinner_score : a.spinner_score + b.spinner_score < 2 ^ 64
+
 module _ (a b : Entry) (ha : SumOf (max_levels + 1) a) (hb : in_limits b ≡ true) where
   pub sum_fits : (i : ℕ) → i < entry_words → get_or (words_of a) i 0 + get_or (words_of b) i 0 < 18446744073709551616
   unfolding SumOf
@@ -192,6 +241,23 @@ module _ (a b : Entry) (ha : SumOf (max_levels + 1) a) (hb : in_limits b ≡ tru
       let y = word_le b hb i h in
       let m = limit_most i in
       omega (arith, x, y, m)
+
+  pub sums_fit : SumsFit a b
+  sums_fit = record {
+    object_count = sum_fits 0 (lit< tt);
+    combo = sum_fits 1 (lit< tt);
+    combos_before = sum_fits 2 (lit< tt);
+    first_no_slider = sum_fits 3 (lit< tt);
+    accuracy_score = sum_fits 4 (lit< tt);
+    legacy_bonus_score = sum_fits 5 (lit< tt);
+    standardised_bonus_score = sum_fits 6 (lit< tt);
+    n_circles = sum_fits 7 (lit< tt);
+    n_sliders = sum_fits 8 (lit< tt);
+    n_spinners = sum_fits 9 (lit< tt);
+    n_repeats = sum_fits 10 (lit< tt);
+    n_ticks = sum_fits 11 (lit< tt);
+    spinner_score = sum_fits 12 (lit< tt);
+  }
 
   pub product_fits : a.combo * b.object_count ≤ 114802688 * max_objects
   unfolding SumOf

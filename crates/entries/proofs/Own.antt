@@ -1,6 +1,6 @@
 -- One step of the simulator, from no object on, gives the words of the object's own entry.
 use Prim.Native.Nat.{◌+◌, ◌*◌}
-use mathlib.Core.Path.{◌≡◌, refl, ap, ap₂, ◌∙◌}
+use mathlib.Core.Path.{◌≡◌, refl, ap₂, ◌∙◌}
 use native.Mathlib.Omega.{arith}
 use Rattle.records.specs.declared.hit_object.HitObjectKind.{HitObjectKind}
 use Rattle.records.specs.declared.hit_object.HitObjectKind.TheVariants as kind
@@ -20,7 +20,7 @@ own_with kind.Circle st c = entry_with st c 0 1
 own_with (kind.Slider s) st c = entry_with st c st.combo 0
 own_with (kind.Spinner s) st c = entry_with st c 0 1
 
-own_step : (k : HitObjectKind) → own_with k (walk 1 fresh (hits_of (kind_of k))) (counted no_object (kind_of k)) ≡ own_entry k
+pub own_step : (k : HitObjectKind) → own_with k (walk 1 fresh (hits_of (kind_of k))) (counted no_object (kind_of k)) ≡ own_entry k
 unfolding counted
 own_step kind.Circle = ap₂ (own_with kind.Circle) (walk-circle 1 fresh ∙ state_same refl refl refl refl refl) refl
 own_step (kind.Slider s) =
@@ -30,10 +30,3 @@ own_step (kind.Slider s) =
     (walk-slider 1 fresh (items_of s) ∙ state_same {c' = s.repeats + s.ticks + 2} {a' = (s.repeats + 2) * 30 + s.ticks * 10 + 300} (omega (arith, r, t)) (omega (arith, r, t)) refl refl refl)
     (nested_same {d5 = s.repeats} {d6 = s.ticks} refl refl refl refl (omega (arith, r)) (omega (arith, t)) refl)
 own_step (kind.Spinner s) = ap₂ (own_with (kind.Spinner s)) (walk-spinner 1 fresh s.duration ∙ state_same refl refl refl (omega arith) (omega arith)) (nested_same refl refl refl refl refl refl (omega arith))
-
--- the same as the code has it
-pub own_from : (k : HitObjectKind) (st after : State) (c next : NestedScorePerObject) → st ≡ fresh → after ≡ walk 1 st (hits_of (kind_of k))
-    → c ≡ no_object → next ≡ counted c (kind_of k) → own_with k after next ≡ own_entry k
-own_from k st after c next new stepped none next_is =
-    ap₂ (own_with k) (stepped ∙ ap (λ (s : State). walk 1 s (hits_of (kind_of k))) new) (next_is ∙ ap (λ (n : NestedScorePerObject). counted n (kind_of k)) none)
-    ∙ own_step k

@@ -12,7 +12,7 @@ use Rattle.spinner.specs.Bonus.{legacy_of, standardised_of}
 use Rattle.simulator.specs.Nested.{spinner_score_of}
 use Rattle.simulator.specs.Combo.{gain, gain_before, combos_before_of, first_no_slider_of}
 use Rattle.simulator.proofs.Sums.{items_count}
-use Rattle.entries.specs.Entry.{accuracy_gain, standardised_gain, is_circle, is_slider, is_spinner, repeats_in, ticks_in, spinner_score_in, total, entry_of, none, first_of, joined, words_of, own_entry, entry_words}
+use Rattle.entries.specs.Entry.{accuracy_gain, standardised_gain, is_circle, is_slider, is_spinner, repeats_in, ticks_in, spinner_score_in, total, entry_of, none, first_of, summed, joined, words_of, own_entry, entry_words}
 use Rattle.entries.specs.declared.entry.Entry.{Entry}
 
 -- two entries whose words agree
@@ -51,23 +51,7 @@ entry_same v w h =
 pub joined_at : (l : Bool) (a b : Entry) (k n c f g h : ℕ) → k ≡ cond l a.combo b.combo → n ≡ cond l b.object_count a.object_count
     → c ≡ cond l a.object_count b.object_count → f ≡ cond l a.first_no_slider b.first_no_slider
     → g ≡ cond l b.first_no_slider a.first_no_slider → h ≡ first_of c f g
-    → ◌≡◌ {A = Entry}
-    (record {
-      object_count = a.object_count + b.object_count;
-      combo = a.combo + b.combo;
-      combos_before = a.combos_before + b.combos_before + k * n;
-      first_no_slider = h;
-      accuracy_score = a.accuracy_score + b.accuracy_score;
-      legacy_bonus_score = a.legacy_bonus_score + b.legacy_bonus_score;
-      standardised_bonus_score = a.standardised_bonus_score + b.standardised_bonus_score;
-      n_circles = a.n_circles + b.n_circles;
-      n_sliders = a.n_sliders + b.n_sliders;
-      n_spinners = a.n_spinners + b.n_spinners;
-      n_repeats = a.n_repeats + b.n_repeats;
-      n_ticks = a.n_ticks + b.n_ticks;
-      spinner_score = a.spinner_score + b.spinner_score;
-    })
-    (cond l (joined a b) (joined b a))
+    → summed a b (a.combos_before + b.combos_before + k * n) h ≡ cond l (joined a b) (joined b a)
 unfolding joined
 joined_at true a b k n c f g h ek en ec ef eg eh = rw (ek, en, eh, ec, ef, eg) refl
 joined_at false a b k n c f g h ek en ec ef eg eh =

@@ -109,13 +109,13 @@ none = record {
 abbrev pub first_of : ℕ → ℕ → ℕ → ℕ
 first_of count a b = cond (ltb 0 count) a b
 
--- the objects of a, then those of b: these meet the combo that a gained
-unfoldable pub joined : Entry → Entry → Entry
-joined a b = record {
+-- the sums of both, with the two words that hang on their order
+abbrev pub summed : Entry → Entry → ℕ → ℕ → Entry
+summed a b before first = record {
   object_count = a.object_count + b.object_count;
   combo = a.combo + b.combo;
-  combos_before = a.combos_before + b.combos_before + a.combo * b.object_count;
-  first_no_slider = first_of a.object_count a.first_no_slider b.first_no_slider;
+  combos_before = before;
+  first_no_slider = first;
   accuracy_score = a.accuracy_score + b.accuracy_score;
   legacy_bonus_score = a.legacy_bonus_score + b.legacy_bonus_score;
   standardised_bonus_score = a.standardised_bonus_score + b.standardised_bonus_score;
@@ -126,6 +126,11 @@ joined a b = record {
   n_ticks = a.n_ticks + b.n_ticks;
   spinner_score = a.spinner_score + b.spinner_score;
 }
+
+-- the objects of a, then those of b: these meet the combo that a gained
+unfoldable pub joined : Entry → Entry → Entry
+joined a b =
+    summed a b (a.combos_before + b.combos_before + a.combo * b.object_count) (first_of a.object_count a.first_no_slider b.first_no_slider)
 
 -- ---- limits
 abbrev pub words_of : Entry → List ℕ

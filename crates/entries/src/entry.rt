@@ -2,14 +2,14 @@
 ghost use Rattle.std.specs.Prelude.{◌≡◌, true, cond, ◌+◌, ◌*◌, ◌≤◌};
 ghost use Rattle.rules.specs.Limits.{max_levels, max_nested, max_objects};
 ghost use Rattle.simulator.specs.Limits.{nested_count};
-ghost use Rattle.entries.specs.Entry.{none, joined, first_of, in_limits, SumOf, entry_with, own_entry};
+ghost use Rattle.entries.specs.Entry.{none, summed, joined, first_of, in_limits, SumOf, entry_with, own_entry};
 
 use records::hit_object::{HitObject, HitObjectKind, Slider};
 use simulator::legacy_score::NestedScorePerObject;
 use simulator::legacy_score_simulator::OsuLegacyScoreSimulator;
 
 // Combo and combos_before are document 01's k and s, first_no_slider its f.
-#[derive(Clone, Copy)]
+#[derive(Clone, Copy, Default)]
 pub struct Entry {
     pub object_count: u64,
     pub combo: u64,
@@ -59,21 +59,7 @@ impl Entry {
     pub fn new() -> Self
         ensures { result ≡ none }
     {
-        Entry {
-            object_count: 0,
-            combo: 0,
-            combos_before: 0,
-            first_no_slider: 0,
-            accuracy_score: 0,
-            legacy_bonus_score: 0,
-            standardised_bonus_score: 0,
-            n_circles: 0,
-            n_sliders: 0,
-            n_spinners: 0,
-            n_repeats: 0,
-            n_ticks: 0,
-            spinner_score: 0,
-        }
+        Entry::default()
     }
 
     // The sums of the simulator's state and counts, with the words of the board that these have not.
@@ -107,10 +93,9 @@ impl Entry {
         requires { nested_count object.kind ≤ max_nested }
         ensures { result ≡ own_entry object.kind }
     {
-        let kind = object.kind;
         let score = OsuLegacyScoreSimulator::new();
         let nested = NestedScorePerObject::new().process_next(object);
-        match kind {
+        match object.kind {
             HitObjectKind::Circle => Entry::with(score.circle(), nested, 0, 1),
             HitObjectKind::Slider(slider) => {
                 let after = score.slider(slider);
@@ -121,6 +106,7 @@ impl Entry {
     }
 
     // One branch for all words.
+    #[tactic(auto, unfolding(crate::specs::Entry::in_limits))]
     pub fn within(self) -> bool
         ensures { result ≡ in_limits self }
     {
@@ -139,16 +125,17 @@ impl Entry {
             & (self.spinner_score <= Entry::MAX_SCORE)
     }
 
-    // That of the objects of self, then those of b. Sums of a few entries leave room, so that they can be checked later.
-    pub fn join(self, b: Entry) -> Self
+    // The sums of both, with the two words that hang on their order.
+    #[tactic(auto, using(crate::proofs::Limits::sums_fit))]
+    fn sum(self, b: Entry, combos_before: u64, first_no_slider: u64) -> Self
         requires { SumOf (max_levels + 1) self × (in_limits b ≡ true) }
-        ensures { result ≡ joined self b }
+        ensures { result ≡ summed self b combos_before first_no_slider }
     {
         Entry {
             object_count: self.object_count + b.object_count,
             combo: self.combo + b.combo,
-            combos_before: self.combos_before + b.combos_before + self.combo * b.object_count,
-            first_no_slider: first(self.object_count, self.first_no_slider, b.first_no_slider),
+            combos_before,
+            first_no_slider,
             accuracy_score: self.accuracy_score + b.accuracy_score,
             legacy_bonus_score: self.legacy_bonus_score + b.legacy_bonus_score,
             standardised_bonus_score: self.standardised_bonus_score + b.standardised_bonus_score,
@@ -161,7 +148,21 @@ impl Entry {
         }
     }
 
+    // That of the objects of self, then those of b. Sums of a few entries leave room, so that they can be checked later.
+    #[tactic(auto, using(crate::proofs::Limits::sums_fit, crate::proofs::Limits::product_fits, crate::proofs::Limits::combos_fit), unfolding(crate::specs::Entry::joined))]
+    pub fn join(self, b: Entry) -> Self
+        requires { SumOf (max_levels + 1) self × (in_limits b ≡ true) }
+        ensures { result ≡ joined self b }
+    {
+        self.sum(
+            b,
+            self.combos_before + b.combos_before + self.combo * b.object_count,
+            first(self.object_count, self.first_no_slider, b.first_no_slider),
+        )
+    }
+
     // The same, or that of the objects of b and then those of self: the factors are chosen, so that a way up the tree takes no branch for its side.
+    #[tactic(auto, using(crate::proofs::Limits::sums_fit, crate::proofs::Limits::chosen_product, crate::proofs::Limits::chosen_combos, crate::proofs::Runs::joined_at))]
     pub fn join_at(self, b: Entry, leads: bool) -> Self
         requires { SumOf (max_levels + 1) self × (self.object_count ≤ (max_levels + 1) * max_objects) × (in_limits b ≡ true) }
         ensures { result ≡ cond leads (joined self b) (joined b self) }
@@ -171,20 +172,10 @@ impl Entry {
         let first_count = choose(leads, self.object_count, b.object_count);
         let first_there = choose(leads, self.first_no_slider, b.first_no_slider);
         let first_behind = choose(leads, b.first_no_slider, self.first_no_slider);
-        Entry {
-            object_count: self.object_count + b.object_count,
-            combo: self.combo + b.combo,
-            combos_before: self.combos_before + b.combos_before + combo * count,
-            first_no_slider: first(first_count, first_there, first_behind),
-            accuracy_score: self.accuracy_score + b.accuracy_score,
-            legacy_bonus_score: self.legacy_bonus_score + b.legacy_bonus_score,
-            standardised_bonus_score: self.standardised_bonus_score + b.standardised_bonus_score,
-            n_circles: self.n_circles + b.n_circles,
-            n_sliders: self.n_sliders + b.n_sliders,
-            n_spinners: self.n_spinners + b.n_spinners,
-            n_repeats: self.n_repeats + b.n_repeats,
-            n_ticks: self.n_ticks + b.n_ticks,
-            spinner_score: self.spinner_score + b.spinner_score,
-        }
+        self.sum(
+            b,
+            self.combos_before + b.combos_before + combo * count,
+            first(first_count, first_there, first_behind),
+        )
     }
 }

@@ -9,17 +9,16 @@ use simulator::legacy_score_simulator::OsuLegacyScoreSimulator;
 use spinner::{LegacyBonusScore, StandardisedBonusScore};
 
 // No objects have such words: each slider gives a head and a tail, and before each 300 but a leading one stands combo.
+#[tactic(auto, using(crate::proofs::Limits::words_in), unfolding(crate::specs::Scores::unsound))]
 pub fn is_unsound(e: Entry) -> bool
     requires { in_limits e ≡ true }
     ensures { result ≡ unsound e }
 {
-    if e.combo < 2 * e.n_sliders {
-        return true;
-    }
-    e.combos_before + e.first_no_slider < e.object_count
+    e.combo < 2 * e.n_sliders || e.combos_before + e.first_no_slider < e.object_count
 }
 
 // The running state behind the objects, at multiplier 1.
+#[tactic(auto, using(crate::proofs::Limits::words_in, crate::proofs::Sound::sound))]
 pub fn state_in(e: Entry) -> OsuLegacyScoreSimulator
     requires { (in_limits e ≡ true) × (unsound e ≡ false) }
     ensures { result ≡ state_in e }

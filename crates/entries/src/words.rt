@@ -5,6 +5,7 @@ ghost use Rattle.entries.specs.Words.{entry_at, put_entry};
 
 use crate::entry::Entry;
 
+#[tactic(auto, unfolding(crate::specs::Words::entry_at))]
 pub fn load(b: &[u64], e: usize) -> Entry
     requires { e * entry_words + entry_words ≤ length b.now }
     ensures { result ≡ entry_at b.now e }
@@ -27,6 +28,7 @@ pub fn load(b: &[u64], e: usize) -> Entry
     }
 }
 
+#[tactic(auto, unfolding(crate::specs::Words::put_entry))]
 pub fn store(b: &mut [u64], e: usize, v: Entry)
     requires { e * entry_words + entry_words ≤ length b.old }
     ensures { b.new ≡ put_entry b.old e v }

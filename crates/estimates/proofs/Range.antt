@@ -1,4 +1,5 @@
 -- The effective miss count lies from the misses to the judgements: it is held from below by a max, then from above by a min.
+use Rattle.std.specs.Prelude.{Option, Some, None}
 use mathlib.Core.Path.{◌≡◌}
 use mathlib.Core.Bool.{true}
 use Prim.Native.Nat.{◌≤◌}
@@ -9,8 +10,6 @@ use Rattle.numbers.proofs.Order.{max_above, min_below, min_above, whole-number, 
 use Rattle.play_state.specs.declared.OsuHitResults.{OsuHitResults}
 use Rattle.miss_calc.specs.Counts.{total_hits}
 use Rattle.estimates.specs.Effective.{held_of, effective_of}
-use Rattle.miss_calc.specs.declared.legacy_score_miss_calc.MissCount.{MissCount}
-use Rattle.miss_calc.specs.declared.legacy_score_miss_calc.MissCount.TheVariants as misses
 
 pub record FromMissesToJudgements (x : Float) (h : OsuHitResults) : Type 0 where
   pub above : le (whole h.misses) x ≡ true
@@ -27,7 +26,7 @@ held_range x h k =
       below = min_below _ _ total;
     }
 
-pub effective_range : (combo : Float) (score : MissCount) (h : OsuHitResults) → total_hits h ≤ 262140 → FromMissesToJudgements (effective_of combo score h) h
+pub effective_range : (combo : Float) (score : Option Float) (h : OsuHitResults) → total_hits h ≤ 262140 → FromMissesToJudgements (effective_of combo score h) h
 unfolding effective_of
-effective_range combo misses.Absent h k = held_range combo h k
-effective_range combo (misses.Is x) h k = held_range x h k
+effective_range combo None h k = held_range combo h k
+effective_range combo (Some x) h k = held_range x h k

@@ -3,11 +3,11 @@ ghost use Rattle.std.specs.Prelude.{◌≡◌, ◌≤◌};
 ghost use Rattle.estimates.specs.Accuracy.{abs_of, quotient_of, weighted, heaviest, large_ticks, accuracy_of, with_slider_acc, without_slider_acc};
 
 use miss_calc::counts::total_hits;
-use numbers::naturals::least;
 use numbers::rounding::float;
 use play_state::{OsuHitResults, OsuScoreOrigin};
 use simulator::attributes::OsuDifficultyAttributes;
 
+#[tactic(auto, unfolding(crate::specs::Accuracy::abs_of, numbers::proofs::Literals::of_bits, numbers::proofs::Literals::of_int, numbers::proofs::Literals::round))]
 fn abs(x: f64) -> f64
     ensures { result ≡ abs_of x }
 {
@@ -15,6 +15,7 @@ fn abs(x: f64) -> f64
 }
 
 // The quotient, and 0 where the denominator is as good as 0.
+#[tactic(auto, unfolding(crate::specs::Accuracy::quotient_of, numbers::proofs::Literals::of_bits, numbers::proofs::Literals::of_int, numbers::proofs::Literals::round))]
 fn quotient(numerator: f64, denominator: f64) -> f64
     ensures { result ≡ quotient_of numerator denominator }
 {
@@ -27,51 +28,56 @@ fn quotient(numerator: f64, denominator: f64) -> f64
 }
 
 // The judgements, in sixths of a 300.
+#[tactic(auto, unfolding(crate::specs::Accuracy::weighted))]
 fn weight(h: OsuHitResults) -> f64
     ensures { result ≡ weighted h }
 {
-    float(6 * (h.n300 as u64) + 2 * (h.n100 as u64) + (h.n50 as u64))
+    f64::from(6 * u32::from(h.n300) + 2 * u32::from(h.n100) + u32::from(h.n50))
 }
 
+#[tactic(auto, unfolding(crate::specs::Accuracy::heaviest))]
 fn full_weight(h: OsuHitResults) -> f64
     ensures { result ≡ heaviest h }
 {
-    float(6 * total_hits(h))
+    f64::from(6 * total_hits(h))
 }
 
 // The ticks and repeats of a map's sliders.
 pub fn large_ticks(attrs: OsuDifficultyAttributes) -> u64
     ensures { (result ≡ large_ticks attrs) × (result ≤ 8589934590) }
 {
-    (attrs.n_ticks as u64) + (attrs.n_repeats as u64)
+    u64::from(attrs.n_ticks) + u64::from(attrs.n_repeats)
 }
 
+#[tactic(auto, unfolding(crate::specs::Accuracy::with_slider_acc, numbers::proofs::Literals::of_bits, numbers::proofs::Literals::of_int, numbers::proofs::Literals::round))]
 fn with_slider_acc(h: OsuHitResults, attrs: OsuDifficultyAttributes) -> f64
     ensures { result ≡ with_slider_acc h attrs }
 {
     let max_large_ticks = large_ticks(attrs);
-    let max_slider_ends = attrs.n_sliders as u64;
-    let slider_end_hits = least(h.slider_end_hits as u64, max_slider_ends);
-    let large_tick_hits = least(h.large_tick_hits as u64, max_large_ticks);
+    let max_slider_ends = u64::from(attrs.n_sliders);
+    let slider_end_hits = u64::from(h.slider_end_hits).min(max_slider_ends);
+    let large_tick_hits = u64::from(h.large_tick_hits).min(max_large_ticks);
     quotient(
         weight(h) + (float(3 * slider_end_hits) + 0.6 * float(large_tick_hits)),
         full_weight(h) + (float(3 * max_slider_ends) + 0.6 * float(max_large_ticks)),
     )
 }
 
+#[tactic(auto, unfolding(crate::specs::Accuracy::without_slider_acc, numbers::proofs::Literals::of_bits, numbers::proofs::Literals::of_int, numbers::proofs::Literals::round))]
 fn without_slider_acc(h: OsuHitResults, attrs: OsuDifficultyAttributes) -> f64
     ensures { result ≡ without_slider_acc h attrs }
 {
-    let max_large_ticks = (attrs.n_sliders as u64) + large_ticks(attrs);
-    let max_small_ticks = attrs.n_sliders as u64;
-    let large_tick_hits = least(h.large_tick_hits as u64, max_large_ticks);
-    let small_tick_hits = least(h.small_tick_hits as u64, max_small_ticks);
+    let max_large_ticks = u64::from(attrs.n_sliders) + large_ticks(attrs);
+    let max_small_ticks = attrs.n_sliders;
+    let large_tick_hits = u64::from(h.large_tick_hits).min(max_large_ticks);
+    let small_tick_hits = h.small_tick_hits.min(max_small_ticks);
     quotient(
-        weight(h) + (0.6 * float(large_tick_hits) + 0.2 * float(small_tick_hits)),
-        full_weight(h) + (0.6 * float(max_large_ticks) + 0.2 * float(max_small_ticks)),
+        weight(h) + (0.6 * float(large_tick_hits) + 0.2 * f64::from(small_tick_hits)),
+        full_weight(h) + (0.6 * float(max_large_ticks) + 0.2 * f64::from(max_small_ticks)),
     )
 }
 
+#[tactic(auto, unfolding(crate::specs::Accuracy::accuracy_of))]
 pub fn accuracy(h: OsuHitResults, origin: OsuScoreOrigin, attrs: OsuDifficultyAttributes) -> f64
     ensures { result ≡ accuracy_of h origin attrs }
 {

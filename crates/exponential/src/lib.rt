@@ -16,10 +16,8 @@ fn series(y: f64) -> f64
     ensures { result ≡ series_of y 8 (whole 1) }
 {
     let mut h = 1.0;
-    let mut j = TERMS;
-    while 0 < j {
+    for j in (1..=TERMS).rev() {
         h = 1.0 + y / float(j) * h;
-        j -= 1;
     }
     h
 }
@@ -28,10 +26,8 @@ fn square_10_times(x: f64) -> f64
     ensures { result ≡ squared 10 x }
 {
     let mut power = x;
-    let mut left = SQUARINGS;
-    while 0 < left {
+    for _ in 0..SQUARINGS {
         power = power * power;
-        left -= 1;
     }
     power
 }

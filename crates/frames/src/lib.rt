@@ -20,10 +20,7 @@ pub fn read_front<R: Read>(reader: &mut R, space: &mut [u8], count: usize) -> bo
     if space.len() < count {
         return false;
     }
-    match reader.read_exact(&mut space[..count]) {
-        Ok(()) => true,
-        Err(_) => false,
-    }
+    reader.read_exact(&mut space[..count]).is_ok()
 }
 
 // Whether the text starts with these bytes.

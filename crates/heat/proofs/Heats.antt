@@ -9,12 +9,14 @@ use mathlib.Core.List.{List, [], ◌∷◌, map, ◌++◌}
 use lib.ListN.{length, drop, get_or}
 use lib.Dec.{ltb}
 use borrow.Author.Tests.{lt-ltb, le-ltb}
-use Rattle.rules.specs.Refusals.{Checked, refused, good, pick, HEAT}
+use Rattle.rules.specs.Refusals.{Checked, refused, good, pick, HEAT, OrRefusal, refusal_at, at_0, number_of}
+use Rattle.rules.specs.declared.refusal.Rule.{Rule}
+use Rattle.rules.proofs.Numbers.{number_above_0}
 use Rattle.rules.specs.Limits.{max_plays}
 use Rattle.map_file.specs.File.{file_of}
 use Rattle.simulator.specs.Attributes.{score_attributes_at}
 use Rattle.simulator.specs.declared.attributes.ScoreAttributes.{ScoreAttributes}
-use Rattle.play_score.specs.PlayRules.{given_answer, given_score}
+use Rattle.play_score.specs.PlayRules.{given_score}
 use Rattle.play_score.specs.declared.PlayScore.{PlayScore}
 use Rattle.scoring.specs.Scores.{Outcome, refusal, values, Scores, scores_of}
 use Rattle.scoring.proofs.Rules.{IsRule, refusal_rule}
@@ -24,8 +26,6 @@ use Rattle.host.specs.declared.answer.PlayAnswer.{PlayAnswer}
 use Rattle.host.specs.declared.play.HostPlay.{HostPlay}
 use Rattle.host.specs.declared.status.Status.{Status}
 use Rattle.heat.specs.Heat.{counts_bad, start_of, heat_status_of, outcomes_of, heat_of}
-use Rattle.heat.specs.declared.HeatStart.{HeatStart}
-use Rattle.heat.specs.declared.HeatStart.TheVariants as start
 use Rattle.heat.proofs.Loop.{Fits, fits}
 
 -- ---- a list's images in front of what is left of another
@@ -44,49 +44,33 @@ front_beyond f (p ∷ ps) (o ∷ os) (suc i) e h l = front_beyond f ps os i e (l
 -- ---- the status of a heat: none, a rule of the file, or 15
 pub data HeatNumber : ℕ → Type 0 where
   none : HeatNumber 0
-  of_file : {n : ℕ} → IsRule n → HeatNumber n
+  of_file : (n : Rule) → IsRule n → HeatNumber (number_of n)
   of_counts : HeatNumber 15
 
-at_zero : (x : Checked PlayScore) → (given_answer_of (given_answer x)).offset ≡ 0
+at_zero : (x : Checked PlayScore) → (given_answer_of (at_0 x)).offset ≡ 0
 at_zero (refused number) = refl
 at_zero (good score) = refl
-
--- a refusal's number is above 0
-abbrev Told : HeatStart → Type 0
-Told (start.Ready all) = Unit {0}
-Told (start.Refused number offset) = 1 ≤ number
 
 module _ (s : List ℕ) (ps : List HostPlay) (os : List PlayAnswer) where
   abbrev x : Outcome Scores
   x = scores_of (file_of s)
 
-  abbrev begun : HeatStart
+  abbrev begun : OrRefusal ScoreAttributes
   begun = start_of x (length ps) (length os)
 
   abbrev left : Status × List PlayAnswer
   left = heat_of x ps os
 
-  told : Told begun
-  told = go x refl
-    where
-      by : (all : ScoreAttributes) (b : Bool) → Told (pick b (start.Refused HEAT 0) (start.Ready all))
-      by all true = omega arith
-      by all false = tt
-
-      go : (y : Outcome Scores) → x ≡ y → Told (start_of y (length ps) (length os))
-      go (refusal n at) e = let r = refusal_rule s n at e in omega (arith, r.0)
-      go (values v) e = by _ (counts_bad (length ps) (length os))
-
   pub heat_numbers : HeatNumber left.0.status
   unfolding heat_of
   heat_numbers = go x refl
     where
-      by : (all : ScoreAttributes) (b : Bool) → HeatNumber (heat_status_of (pick b (start.Refused HEAT 0) (start.Ready all))).status
+      by : (all : ScoreAttributes) (b : Bool) → HeatNumber (heat_status_of (pick b (refused (refusal_at HEAT 0)) (good all))).status
       by all true = of_counts
       by all false = none
 
       go : (y : Outcome Scores) → x ≡ y → HeatNumber (heat_status_of (start_of y (length ps) (length os))).status
-      go (refusal n at) e = of_file (refusal_rule s n at e)
+      go (refusal n at) e = of_file n (refusal_rule s n at e)
       go (values v) e = by _ (counts_bad (length ps) (length os))
 
   -- "a refused call changes no lent memory"
@@ -94,12 +78,12 @@ module _ (s : List ℕ) (ps : List HostPlay) (os : List PlayAnswer) where
   unfolding heat_of
   refused_heat_writes_nothing h = go begun h
     where
-      go : (t : HeatStart) → 1 ≤ (heat_status_of t).status → outcomes_of t x ps os ≡ os
-      go (start.Ready all) h = absurd (omega (arith, h))
-      go (start.Refused number offset) h = refl
+      go : (t : OrRefusal ScoreAttributes) → 1 ≤ (heat_status_of t).status → outcomes_of t x ps os ≡ os
+      go (good all) h = absurd (omega (arith, h))
+      go (refused r) h = refl
 
   -- an input that breaks a rule gets its number: the file's, at its offset, whatever the plays are
-  pub refused_file_refuses_the_heat : (n at : ℕ) → x ≡ refusal n at → left.0 ≡ record { status = n; offset = at }
+  pub refused_file_refuses_the_heat : (n : Rule) (at : ℕ) → x ≡ refusal n at → left.0 ≡ record { status = number_of n; offset = at }
   unfolding heat_of
   refused_file_refuses_the_heat n at e = ap (λ (y : Outcome Scores). heat_status_of (start_of y (length ps) (length os))) e
 
@@ -120,27 +104,27 @@ module _ (s : List ℕ) (ps : List HostPlay) (os : List PlayAnswer) where
   fewer_outcomes_get_15 v e few =
       ap (λ (y : Outcome Scores). heat_status_of (start_of y (length ps) (length os))) e ∙ by _ (ltb max_plays (length ps)) (ltb (length os) (length ps)) (lt-ltb (length os) (length ps) few)
     where
-      by : (all : ScoreAttributes) (b c : Bool) → c ≡ true → heat_status_of (pick (b || c) (start.Refused HEAT 0) (start.Ready all)) ≡ record { status = 15; offset = 0 }
+      by : (all : ScoreAttributes) (b c : Bool) → c ≡ true → heat_status_of (pick (b || c) (refused (refusal_at HEAT 0)) (good all)) ≡ record { status = 15; offset = 0 }
       by all true c e = refl
-      by all false c e = ap (λ (d : Bool). heat_status_of (pick d (start.Refused HEAT 0) (start.Ready all))) e
+      by all false c e = ap (λ (d : Bool). heat_status_of (pick d (refused (refusal_at HEAT 0)) (good all))) e
 
   module _ (done : left.0.status ≡ 0) where
     -- no other heat is good
     pub good_heat_fits : (length ps ≤ 64) × (length ps ≤ length os)
     unfolding heat_of
-    good_heat_fits = go begun told done (fits x (length ps) (length os))
+    good_heat_fits = go begun done (fits x (length ps) (length os))
       where
-        go : (t : HeatStart) → Told t → (heat_status_of t).status ≡ 0 → Fits t (length ps) (length os) → (length ps ≤ max_plays) × (length ps ≤ length os)
-        go (start.Ready all) k e f = f tt
-        go (start.Refused number offset) k e f = absurd (omega (arith, k, e))
+        go : (t : OrRefusal ScoreAttributes) → (heat_status_of t).status ≡ 0 → Fits t (length ps) (length os) → (length ps ≤ max_plays) × (length ps ≤ length os)
+        go (good all) e f = f tt
+        go (refused r) e f = absurd (omega (arith, number_above_0 r.rule, e))
 
     left_is : left.1 ≡ map (single_of x) ps ++ drop (length ps) os
     unfolding heat_of
-    left_is = go begun told done
+    left_is = go begun done
       where
-        go : (t : HeatStart) → Told t → (heat_status_of t).status ≡ 0 → outcomes_of t x ps os ≡ map (single_of x) ps ++ drop (length ps) os
-        go (start.Ready all) k e = refl
-        go (start.Refused number offset) k e = absurd (omega (arith, k, e))
+        go : (t : OrRefusal ScoreAttributes) → (heat_status_of t).status ≡ 0 → outcomes_of t x ps os ≡ map (single_of x) ps ++ drop (length ps) os
+        go (good all) e = refl
+        go (refused r) e = absurd (omega (arith, number_above_0 r.rule, e))
 
     -- "for each play what a single call without factors gives, its refusal included": whatever became of the plays before it
     pub each_play_as_alone : (i : ℕ) (p : HostPlay) (o : PlayAnswer) → i < length ps → get_or left.1 i o ≡ single_of x (get_or ps i p)
@@ -152,7 +136,7 @@ module _ (s : List ℕ) (ps : List HostPlay) (os : List PlayAnswer) where
     each_outcome_at_zero i p o l = ap (λ (a : PlayAnswer). a.offset) (each_play_as_alone i p o l) ∙ go x refl done
       where
         go : (y : Outcome Scores) → x ≡ y → (heat_status_of (start_of y (length ps) (length os))).status ≡ 0 → (single_of y (get_or ps i p)).offset ≡ 0
-        go (refusal n at) e d = let r = refusal_rule s n at e in absurd (omega (arith, r.0, d))
+        go (refusal n at) e d = absurd (omega (arith, number_above_0 n, d))
         go (values v) e d = at_zero (given_score (play_in (get_or ps i p)) (score_attributes_at v.map (play_in (get_or ps i p)).passed_objects))
 
     -- "outcomes beyond the last play stay"

@@ -11,7 +11,8 @@ use lib.Seq.{take_all}
 use lib.Dec.{ltb}
 use borrow.Author.Tests.{ltb-false}
 use Rattle.rules.specs.Limits.{max_plays}
-use Rattle.rules.specs.Refusals.{pick, HEAT}
+use Rattle.rules.specs.Refusals.{pick, HEAT, OrRefusal, good, refused, refusal_at}
+use Rattle.rules.specs.declared.refusal.Rule.{Rule}
 use Rattle.records.specs.Objects.{Object}
 use Rattle.map_file.specs.File.{File, Map, Result, accepted, refused_at}
 use Rattle.simulator.specs.Attributes.{score_attributes_of, score_attributes_at}
@@ -21,39 +22,33 @@ use Rattle.simulator.proofs.Few.{count_is}
 use Rattle.map_reader.proofs.Passed.{attributes_passed}
 use Rattle.scoring.specs.Scores.{Outcome, refusal, values, then, Scores, play_scores, scores_of, map_score_of}
 use Rattle.play_score.specs.declared.PlayScore.{PlayScore}
-use Rattle.play_reader.specs.declared.Simulated.{Simulated}
-use Rattle.play_reader.specs.declared.Simulated.TheVariants as simulated
-use Rattle.scoring.specs.declared.score.MapScore.{MapScore}
-use Rattle.scoring.specs.declared.score.MapScore.TheVariants as map_score
 use Rattle.host.specs.Answer.{given_answer_of, single_of}
 use Rattle.host.specs.Play.{play_in}
 use Rattle.host.specs.declared.answer.PlayAnswer.{PlayAnswer}
 use Rattle.host.specs.declared.play.HostPlay.{HostPlay}
 use Rattle.host.specs.declared.status.Status.{Status}
 use Rattle.heat.specs.Heat.{counts_bad, start_by, start_of, heat_status_of, due_of, passed_of, score_by, one_of, outcomes_of, heat_of}
-use Rattle.heat.specs.declared.HeatStart.{HeatStart}
-use Rattle.heat.specs.declared.HeatStart.TheVariants as start
 use Rattle.heat.proofs.Front.{over, over_none, over_next, over_length, over_all}
 
 -- ---- a heat that is not refused has at most 64 plays, and an outcome for each
-abbrev pub IsReady : HeatStart → Type 0
-IsReady (start.Ready all) = Unit
-IsReady (start.Refused number offset) = ⊥
+abbrev pub IsReady : OrRefusal ScoreAttributes → Type 0
+IsReady (good all) = Unit
+IsReady (refused r) = ⊥
 
-abbrev pub Fits : HeatStart → ℕ → ℕ → Type 0
+abbrev pub Fits : OrRefusal ScoreAttributes → ℕ → ℕ → Type 0
 Fits s plays outcomes = IsReady s → (plays ≤ max_plays) × (plays ≤ outcomes)
 
 pub fits : (x : Outcome Scores) (n k : ℕ) → Fits (start_of x n k) n k
 fits x n k = by (map_score_of x)
   where
-    go : (all : ScoreAttributes) (b c : Bool) → ltb max_plays n ≡ b → ltb k n ≡ c → Fits (pick (b || c) (start.Refused HEAT 0) (start.Ready all)) n k
+    go : (all : ScoreAttributes) (b c : Bool) → ltb max_plays n ≡ b → ltb k n ≡ c → Fits (pick (b || c) (refused (refusal_at HEAT 0)) (good all)) n k
     go all true c p q d = absurd d
     go all false true p q d = absurd d
     go all false false p q d = (ltb-false max_plays n p, ltb-false k n q)
 
-    by : (m : MapScore) → Fits (start_by m n k) n k
-    by (map_score.Map all) d = go all (ltb max_plays n) (ltb k n) refl refl d
-    by (map_score.Refused number offset) d = absurd d
+    by : (m : OrRefusal ScoreAttributes) → Fits (start_by m n k) n k
+    by (good all) d = go all (ltb max_plays n) (ltb k n) refl refl d
+    by (refused r) d = absurd d
 
 -- ---- a play's answer
 all_objects : (m : Map) → (score_attributes_at m (length m.objects)).object_count ≡ length m.objects
@@ -61,7 +56,7 @@ unfolding score_attributes_at score_attributes_of
 all_objects m = ap (λ (os : List Object). (counted_all no_object os).object_count) (take_all (length m.objects) m.objects (omega arith)) ∙ count_is no_object m.objects ∙ zero-add (length m.objects)
 
 -- a play that passed as many objects as there are, or more, has the attributes of all
-passed_is : (f : File) (p : ℕ) → passed_of (accepted f) (score_attributes_at f.map (length f.map.objects)) p ≡ simulated.Map (score_attributes_at f.map p)
+passed_is : (f : File) (p : ℕ) → passed_of (accepted f) (score_attributes_at f.map (length f.map.objects)) p ≡ good (score_attributes_at f.map p)
 passed_is f p = go (ltb p all.object_count) refl
   where
     n : ℕ
@@ -70,11 +65,11 @@ passed_is f p = go (ltb p all.object_count) refl
     all : ScoreAttributes
     all = score_attributes_at f.map n
 
-    go : (b : Bool) → ltb p all.object_count ≡ b → pick b (simulated.Map (score_attributes_at f.map p)) (simulated.Map all) ≡ simulated.Map (score_attributes_at f.map p)
+    go : (b : Bool) → ltb p all.object_count ≡ b → pick {A = OrRefusal ScoreAttributes} b (good (score_attributes_at f.map p)) (good all) ≡ good (score_attributes_at f.map p)
     go true e = refl
     go false e =
         let most : n ≤ p = rw (all_objects f.map) at (ltb-false p all.object_count e) in
-        ap simulated.Map (attributes_passed f.map n p (omega (arith, most)))
+        ap good (attributes_passed f.map n p (omega (arith, most)))
 
 -- where a play is due the file's plays are all good, and its answer is what the single call gives
 module _ (n k i : ℕ) (p : HostPlay) where
@@ -84,7 +79,7 @@ module _ (n k i : ℕ) (p : HostPlay) where
   abbrev Same : Result → Outcome Scores → Type 0
   Same f x = one_of f (start_of x n k) p ≡ single_of x p
 
-  refused_none : (number offset : ℕ) (y : Outcome (List PlayScore)) → Due (then y (λ ss. refusal number offset)) → ⊥
+  refused_none : (number : Rule) (offset : ℕ) (y : Outcome (List PlayScore)) → Due (then y (λ ss. refusal number offset)) → ⊥
   refused_none number offset (refusal m at) d = omega (arith, d)
   refused_none number offset (values ss) d = omega (arith, d)
 
@@ -99,12 +94,12 @@ module _ (n k i : ℕ) (p : HostPlay) where
       scored : List PlayScore → Scores
       scored ss = record { map = f.map; plays = ss }
 
-      start_of_lem : Bool → HeatStart
-      start_of_lem b = pick b (start.Refused HEAT 0) (start.Ready all)
+      start_of_lem : Bool → OrRefusal ScoreAttributes
+      start_of_lem b = pick b (refused (refusal_at HEAT 0)) (good all)
 
       by : (ss : List PlayScore) (b : Bool) → i < due_of (start_of_lem b) n → one_of (accepted f) (start_of_lem b) p ≡ single_of (values (scored ss)) p
       by ss true d = absurd (omega (arith, d))
-      by ss false d = ap (λ (m : Simulated). given_answer_of (score_by (play_in p) m)) (passed_is f (play_in p).passed_objects)
+      by ss false d = ap (λ (m : OrRefusal ScoreAttributes). given_answer_of (score_by (play_in p) m)) (passed_is f (play_in p).passed_objects)
 
       go : (y : Outcome (List PlayScore)) → Due (then y (λ ss. values (scored ss))) → Same (accepted f) (then y (λ ss. values (scored ss)))
       go (refusal m at) d = absurd (omega (arith, d))
@@ -124,22 +119,22 @@ unfolding outcomes_after
 same_length x ps os i now e = ap length e ∙ over_length (single_of x) (take i ps) os
 
 -- from a start that is the heat's
-module _ (f : Result) (ps : List HostPlay) (os : List PlayAnswer) (s : HeatStart) (is : s ≡ start_of (scores_of f) (length ps) (length os)) where
+module _ (f : Result) (ps : List HostPlay) (os : List PlayAnswer) (s : OrRefusal ScoreAttributes) (is : s ≡ start_of (scores_of f) (length ps) (length os)) where
   abbrev x : Outcome Scores
   x = scores_of f
 
   room : Fits s (length ps) (length os)
-  room = subst (λ (t : HeatStart). Fits t (length ps) (length os)) (sym is) (fits x (length ps) (length os))
+  room = subst (λ (t : OrRefusal ScoreAttributes). Fits t (length ps) (length os)) (sym is) (fits x (length ps) (length os))
 
   -- each play that is due is there, and has an outcome
   pub due_fits : (d : ℕ) → d ≡ due_of s (length ps) → (d ≤ max_plays) × (d ≤ length ps) × (d ≤ length os)
   due_fits d e = go s e room
     where
-      go : (t : HeatStart) → d ≡ due_of t (length ps) → Fits t (length ps) (length os) → (d ≤ max_plays) × (d ≤ length ps) × (d ≤ length os)
-      go (start.Ready all) e f =
+      go : (t : OrRefusal ScoreAttributes) → d ≡ due_of t (length ps) → Fits t (length ps) (length os) → (d ≤ max_plays) × (d ≤ length ps) × (d ≤ length os)
+      go (good all) e f =
           let fit = f tt in
           (omega (arith, e, fit.0), omega (arith, e), omega (arith, e, fit.1))
-      go (start.Refused number offset) e f = (omega (arith, e), omega (arith, e), omega (arith, e))
+      go (refused r) e f = (omega (arith, e), omega (arith, e), omega (arith, e))
 
   -- a turn: the next play's answer in its outcome
   pub one_more : (i : ℕ) (d : HostPlay) (now : List PlayAnswer) (answer : PlayAnswer) → i < due_of s (length ps) → i < length ps → now ≡ outcomes_after x ps os i
@@ -147,7 +142,7 @@ module _ (f : Result) (ps : List HostPlay) (os : List PlayAnswer) (s : HeatStart
   unfolding outcomes_after
   one_more i d now answer due in-plays e a =
       let p : HostPlay = get_or ps i d in
-      let single : answer ≡ single_of x p = a ∙ ap (λ (t : HeatStart). one_of f t p) is ∙ one_is (length ps) (length os) i p f (subst (λ (t : HeatStart). i < due_of t (length ps)) is due) in
+      let single : answer ≡ single_of x p = a ∙ ap (λ (t : OrRefusal ScoreAttributes). one_of f t p) is ∙ one_is (length ps) (length os) i p f (subst (λ (t : OrRefusal ScoreAttributes). i < due_of t (length ps)) is due) in
       ap (λ (y : PlayAnswer). set now i y) single ∙ ap (λ (y : List PlayAnswer). set y i (single_of x p)) e ∙ over_next (single_of x) d i ps os in-plays
 
   -- behind the last play that is due the outcomes are those that a heat leaves
@@ -156,8 +151,8 @@ module _ (f : Result) (ps : List HostPlay) (os : List PlayAnswer) (s : HeatStart
   unfolding outcomes_after heat_of
   all_done d i now status e most least a b =
       let last : i ≡ due_of s (length ps) = le_antisymm most least ∙ e in
-      ap₂ (λ (t : Status) (y : List PlayAnswer). (t, y)) (b ∙ ap heat_status_of is) (a ∙ ap (λ (k : ℕ). over (single_of x) (take k ps) os) last ∙ left s room ∙ ap (λ (t : HeatStart). outcomes_of t x ps os) is)
+      ap₂ (λ (t : Status) (y : List PlayAnswer). (t, y)) (b ∙ ap heat_status_of is) (a ∙ ap (λ (k : ℕ). over (single_of x) (take k ps) os) last ∙ left s room ∙ ap (λ (t : OrRefusal ScoreAttributes). outcomes_of t x ps os) is)
     where
-      left : (t : HeatStart) → Fits t (length ps) (length os) → over (single_of x) (take (due_of t (length ps)) ps) os ≡ outcomes_of t x ps os
-      left (start.Ready all) f = over_all (single_of x) ps os (f tt).1
-      left (start.Refused number offset) f = sym (over_none (single_of x) ps os)
+      left : (t : OrRefusal ScoreAttributes) → Fits t (length ps) (length os) → over (single_of x) (take (due_of t (length ps)) ps) os ≡ outcomes_of t x ps os
+      left (good all) f = over_all (single_of x) ps os (f tt).1
+      left (refused r) f = sym (over_none (single_of x) ps os)

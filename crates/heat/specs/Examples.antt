@@ -2,7 +2,7 @@
 use Rattle.std.specs.Prelude.{ℕ, ◌≡◌, refl, List, [], ◌∷◌, ◌++◌, map, replicate, Float}
 use Rattle.std.specs.Float.{binary32, binary64}
 use Rattle.std.specs.Float.Ieee.{of_bits, lt, le, eq}
-use Rattle.rules.specs.Refusals.{◌>>◌, refuse◌when◌}
+use Rattle.rules.specs.Refusals.{◌>>◌, refuse◌when◌, RANGE}
 use Rattle.records.specs.Objects.{circle, slider, tick, repeat}
 use Rattle.play_state.specs.Play.{flags_bad}
 use Rattle.simulator.specs.Attributes.{difficulty_attributes_of, score_attributes_of, score_attributes_at}
@@ -11,7 +11,7 @@ use Rattle.simulator.specs.Nested.{counted, counted_all}
 use Rattle.simulator.specs.Walk.{walk, after}
 use Rattle.play_score.specs.PlayRules.{mods_bad, exceeds, hits_exceed, play_score, given_score}
 use Rattle.scoring.specs.Scores.{Outcome, refusal, values, Scores}
-use Rattle.host.specs.Answer.{play_answer_refused, single_of}
+use Rattle.host.specs.Answer.{play_answer_without, single_of}
 use Rattle.host.specs.declared.answer.PlayAnswer.{PlayAnswer}
 use Rattle.host.specs.declared.play.HostPlay.{HostPlay}
 use Rattle.heat.specs.Heat.{heat_of}
@@ -54,7 +54,7 @@ play passed n300 origin = record {
 
 -- an outcome as it is before the call, by its offset; 99 is no number of a rule
 abbrev old : ℕ → PlayAnswer
-old n = play_answer_refused 99 n
+old n = play_answer_without 99 n
 
 -- of an answer: status, offset, objects and max combo
 abbrev Told : Type 0
@@ -95,8 +95,8 @@ heats =
     -- ".. before any play", of which the first would be refused
     ∷ (file, replicate 2 (play 3 4 0), old 1 ∷ [], ((15, 0), (99, 1, 0, 0) ∷ []))
     -- "after the map": a file's refusal keeps its offset, with a good list of plays and with one of 65
-    ∷ (refusal 4 14, replicate 1 (play 3 3 0), old 1 ∷ [], ((4, 14), (99, 1, 0, 0) ∷ []))
-    ∷ (refusal 4 14, replicate 65 (play 3 3 0), old 1 ∷ [], ((4, 14), (99, 1, 0, 0) ∷ []))
+    ∷ (refusal RANGE 14, replicate 1 (play 3 3 0), old 1 ∷ [], ((4, 14), (99, 1, 0, 0) ∷ []))
+    ∷ (refusal RANGE 14, replicate 65 (play 3 3 0), old 1 ∷ [], ((4, 14), (99, 1, 0, 0) ∷ []))
     ∷ []
 
 heats_left : map (λ (r : Row). heat r.0 r.1 r.2) heats ≡ map (λ (r : Row). r.3) heats

@@ -2,68 +2,61 @@
 -- outcomes, and gets for each play what a single call without factors gives, its refusal included, with offset 0; outcomes beyond the last play stay."
 use Rattle.std.specs.Prelude.{ℕ, Bool, ◌||◌, List, map, ◌++◌, length, drop, ltb}
 use Rattle.rules.specs.Limits.{max_plays}
-use Rattle.rules.specs.Refusals.{pick, HEAT}
+use Rattle.rules.specs.Refusals.{OrRefusal, good, refused, refusal_at, at_0, number_of, pick, HEAT}
 use Rattle.play_state.specs.declared.Play.{Play}
 use Rattle.map_file.specs.File.{Result}
 use Rattle.simulator.specs.declared.attributes.ScoreAttributes.{ScoreAttributes}
 use Rattle.play_reader.specs.View.{simulated_of}
-use Rattle.play_reader.specs.declared.Simulated.{Simulated}
-use Rattle.play_reader.specs.declared.Simulated.TheVariants as simulated
-use Rattle.play_score.specs.PlayRules.{given_answer, given_score}
-use Rattle.play_score.specs.declared.GivenPlay.{GivenPlay}
-use Rattle.play_score.specs.declared.GivenPlay.TheVariants as given
+use Rattle.play_score.specs.PlayRules.{given_score}
+use Rattle.play_score.specs.declared.PlayScore.{PlayScore}
 use Rattle.scoring.specs.Scores.{Outcome, Scores, map_score_of}
-use Rattle.scoring.specs.declared.score.MapScore.{MapScore}
-use Rattle.scoring.specs.declared.score.MapScore.TheVariants as map_score
 use Rattle.host.specs.Play.{play_in}
 use Rattle.host.specs.Answer.{play_answer_refused, given_answer_of, single_of}
 use Rattle.host.specs.declared.answer.PlayAnswer.{PlayAnswer}
 use Rattle.host.specs.declared.play.HostPlay.{HostPlay}
 use Rattle.host.specs.declared.status.Status.{Status}
-use Rattle.heat.specs.declared.HeatStart.{HeatStart}
-use Rattle.heat.specs.declared.HeatStart.TheVariants as start
 
 -- "15: more than 64 plays, or fewer outcomes than plays"
 abbrev pub counts_bad : ℕ → ℕ → Bool
 counts_bad plays outcomes = ltb max_plays plays || ltb outcomes plays
 
 -- "after the map, before any play": the file's number at its offset, then 15, whose offset is 0; else the attributes of all objects
-abbrev pub start_by : MapScore → ℕ → ℕ → HeatStart
-start_by (map_score.Refused number offset) plays outcomes = start.Refused number offset
-start_by (map_score.Map all) plays outcomes = pick (counts_bad plays outcomes) (start.Refused HEAT 0) (start.Ready all)
+abbrev pub start_by : OrRefusal ScoreAttributes → ℕ → ℕ → OrRefusal ScoreAttributes
+start_by (refused r) plays outcomes = refused r
+start_by (good all) plays outcomes = pick (counts_bad plays outcomes) (refused (refusal_at HEAT 0)) (good all)
 
-abbrev pub start_of : Outcome Scores → ℕ → ℕ → HeatStart
+abbrev pub start_of : Outcome Scores → ℕ → ℕ → OrRefusal ScoreAttributes
 start_of x plays outcomes = start_by (map_score_of x) plays outcomes
 
 -- of the call: 0, or the number of its refusal and the offset. A refused play is no refused call
-abbrev pub heat_status_of : HeatStart → Status
-heat_status_of (start.Ready all) = record { status = 0; offset = 0 }
-heat_status_of (start.Refused number offset) = record { status = number; offset = offset }
+abbrev pub heat_status_of : OrRefusal ScoreAttributes → Status
+heat_status_of (good all) = record { status = 0; offset = 0 }
+heat_status_of (refused r) = record { status = number_of r.rule; offset = r.offset }
 
 -- "for each play what a single call without factors gives, its refusal included": `single_of`, the answer of `pjp_score_play`; "outcomes beyond the last play stay", and where the call is refused all of them do
-abbrev pub outcomes_of : HeatStart → Outcome Scores → List HostPlay → List PlayAnswer → List PlayAnswer
-outcomes_of (start.Ready all) x plays outcomes = map (single_of x) plays ++ drop (length plays) outcomes
-outcomes_of (start.Refused number offset) x plays outcomes = outcomes
+abbrev pub outcomes_of : OrRefusal ScoreAttributes → Outcome Scores → List HostPlay → List PlayAnswer → List PlayAnswer
+outcomes_of (good all) x plays outcomes = map (single_of x) plays ++ drop (length plays) outcomes
+outcomes_of (refused r) x plays outcomes = outcomes
 
 -- the status of the call, and the outcomes that it leaves
 unfoldable pub heat_of : Outcome Scores → List HostPlay → List PlayAnswer → Status × List PlayAnswer
 heat_of x plays outcomes =
-    let s : HeatStart = start_of x (length plays) (length outcomes) in (heat_status_of s, outcomes_of s x plays outcomes)
+    let s : OrRefusal ScoreAttributes = start_of x (length plays) (length outcomes) in (heat_status_of s, outcomes_of s x plays outcomes)
 
 -- ---- the same play by play, as the code has it (proofs/Loop)
 -- how many plays get their outcome
-abbrev pub due_of : HeatStart → ℕ → ℕ
-due_of (start.Ready all) plays = plays
-due_of (start.Refused number offset) plays = 0
+abbrev pub due_of : OrRefusal ScoreAttributes → ℕ → ℕ
+due_of (good all) plays = plays
+due_of (refused r) plays = 0
 
 -- the attributes of the passed objects: those of all where these are no more, else worked out again from the file, whose plays are checked by then
-abbrev pub passed_of : Result → ScoreAttributes → ℕ → Simulated
-passed_of f all passed = pick (ltb passed all.object_count) (simulated_of f passed) (simulated.Map all)
+abbrev pub passed_of : Result → ScoreAttributes → ℕ → OrRefusal ScoreAttributes
+passed_of f all passed = pick (ltb passed all.object_count) (simulated_of f passed) (good all)
 
-abbrev pub score_by : Play → Simulated → GivenPlay
-score_by p (simulated.Refused number offset) = given.Refused number offset
-score_by p (simulated.Map a) = given_answer (given_score p a)
+abbrev pub score_by : Play → OrRefusal ScoreAttributes → OrRefusal PlayScore
+score_by p (refused r) = refused r
+score_by p (good a) = at_0 (given_score p a)
 
-abbrev pub one_of : Result → HeatStart → HostPlay → PlayAnswer
-one_of f (start.Ready all) p = given_answer_of (score_by (play_in p) (passed_of f all (play_in p).passed_objects))
-one_of f (start.Refused number offset) p = play_answer_refused number offset
+abbrev pub one_of : Result → OrRefusal ScoreAttributes → HostPlay → PlayAnswer
+one_of f (good all) p = given_answer_of (score_by (play_in p) (passed_of f all (play_in p).passed_objects))
+one_of f (refused r) p = play_answer_refused r

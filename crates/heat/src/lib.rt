@@ -7,24 +7,20 @@ ghost use Rattle.map_file.specs.File.{file_of};
 ghost use Rattle.scoring.specs.Scores.{scores_of};
 ghost use Rattle.heat.specs.Heat.{counts_bad, start_of, due_of, heat_status_of, passed_of, score_by, one_of};
 
-use host::answer::{PlayAnswer, given_answer_of, play_answer_refused};
-use host::play::{HostPlay, play_in};
+use host::answer::PlayAnswer;
+use host::play::HostPlay;
 use host::status::Status;
-use play_reader::{Simulated, simulate};
-use play_score::{GivenPlay, score_given};
+use play_reader::simulate;
+use play_score::{PlayScore, score_given};
 use play_state::Play;
-use rules::refusal;
-use scoring::score::{MapScore, score_map};
+use rules::refusal::{Refusal, Rule};
+use scoring::score::score_map;
 use simulator::attributes::ScoreAttributes;
 
 pub const MAX_PLAYS: usize = 64;
 
-// The attributes of all objects, or why the call is refused.
-#[derive(Clone, Copy)]
-pub enum HeatStart {
-    Ready(ScoreAttributes),
-    Refused { number: u8, offset: usize },
-}
+// What is known before the first play: the attributes of all objects, or why the call is refused.
+pub type HeatStart = Result<ScoreAttributes, Refusal>;
 
 fn has_bad_counts(plays: usize, outcomes: usize) -> bool
     ensures { result ≡ counts_bad plays outcomes }
@@ -36,66 +32,42 @@ fn has_bad_counts(plays: usize, outcomes: usize) -> bool
 pub fn heat_start(file: &[u8], plays: usize, outcomes: usize) -> HeatStart
     ensures { result ≡ start_of (scores_of (file_of file.now)) plays outcomes }
 {
-    match score_map(file) {
-        MapScore::Refused { number, offset } => HeatStart::Refused { number, offset },
-        MapScore::Map(all) => {
-            if has_bad_counts(plays, outcomes) {
-                return HeatStart::Refused {
-                    number: refusal::HEAT,
-                    offset: 0,
-                };
-            }
-            HeatStart::Ready(all)
-        }
+    let all = score_map(file)?;
+    if has_bad_counts(plays, outcomes) {
+        return Err(Rule::Heat.at(0));
     }
+    Ok(all)
 }
 
 // How many plays get their outcome.
 pub fn due(start: HeatStart, plays: usize) -> usize
     ensures { result ≡ due_of start plays }
 {
-    match start {
-        HeatStart::Ready(_) => plays,
-        HeatStart::Refused {
-            number: _,
-            offset: _,
-        } => 0,
-    }
+    if start.is_ok() { plays } else { 0 }
 }
 
 pub fn heat_status(start: HeatStart) -> Status
     ensures { result ≡ heat_status_of start }
 {
-    match start {
-        HeatStart::Ready(_) => Status {
-            status: 0,
-            offset: 0,
-        },
-        HeatStart::Refused { number, offset } => Status {
-            status: number,
-            offset,
-        },
-    }
+    start.map(|_| ()).into()
 }
 
 // The attributes of the passed objects: where these are all, they are known; else the file is read again, without the scores of its own plays.
-fn passed_of(file: &[u8], all: ScoreAttributes, passed: u64) -> Simulated
+fn passed_of(file: &[u8], all: ScoreAttributes, passed: u64) -> Result<ScoreAttributes, Refusal>
     ensures { result ≡ passed_of (file_of file.now) all passed }
 {
     if all.object_count <= passed {
-        return Simulated::Map(all);
+        return Ok(all);
     }
     simulate(file, passed)
 }
 
 // A play from there on goes the single call's way.
-fn score_by(play: Play, passed: Simulated) -> GivenPlay
+fn score_by(play: Play, passed: Result<ScoreAttributes, Refusal>) -> Result<PlayScore, Refusal>
     ensures { result ≡ score_by play passed }
 {
-    match passed {
-        Simulated::Refused { number, offset } => GivenPlay::Refused { number, offset },
-        Simulated::Map(a) => score_given(play, a),
-    }
+    let a = passed?;
+    Ok(score_given(play, a)?)
 }
 
 // The outcome of one play; of a refused call none is due.
@@ -103,11 +75,11 @@ pub fn heat_one(file: &[u8], start: HeatStart, play: HostPlay) -> PlayAnswer
     ensures { result ≡ one_of (file_of file.now) start play }
 {
     match start {
-        HeatStart::Refused { number, offset } => play_answer_refused(number, offset),
-        HeatStart::Ready(all) => {
-            let play = play_in(play);
+        Err(refusal) => refusal.into(),
+        Ok(all) => {
+            let play = Play::from(play);
             let passed = passed_of(file, all, play.passed_objects as u64);
-            given_answer_of(score_by(play, passed))
+            score_by(play, passed).into()
         }
     }
 }

@@ -1,19 +1,13 @@
 -- The values of a map and of a play as a host gets them: an enum as a number, its fields flat. "Where an answer is an enum, a definition sets out
 -- this paper's number and values for each of its cases."
-use Rattle.std.specs.Prelude.{ℕ, Float}
+use Rattle.rules.specs.Refusals.{OrRefusal, good, refused, number_of}
+use Rattle.rules.specs.declared.refusal.Refusal.{Refusal}
+use Rattle.std.specs.Prelude.{ℕ, cond, unwrap_or, is_some, Option, Some, None}
 use Rattle.numbers.specs.Floats.{whole}
 use Rattle.simulator.specs.declared.attributes.ScoreAttributes.{ScoreAttributes}
 use Rattle.estimates.specs.declared.calculator.Estimates.{Estimates}
-use Rattle.miss_calc.specs.declared.legacy_score_miss_calc.MissCount.{MissCount}
-use Rattle.miss_calc.specs.declared.legacy_score_miss_calc.MissCount.TheVariants as misses
 use Rattle.play_score.specs.declared.PlayScore.{PlayScore}
 use Rattle.scoring.specs.Scores.{Outcome, Scores, given_play_of}
-use Rattle.scoring.specs.declared.score.MapScore.{MapScore}
-use Rattle.scoring.specs.declared.score.MapScore.TheVariants as map_score
-use Rattle.play_score.specs.declared.GivenPlay.{GivenPlay}
-use Rattle.play_score.specs.declared.GivenPlay.TheVariants as given
-use Rattle.scoring.specs.declared.score.ListedPlay.{ListedPlay}
-use Rattle.scoring.specs.declared.score.ListedPlay.TheVariants as listed
 use Rattle.host.specs.Play.{play_in}
 use Rattle.host.specs.declared.play.HostPlay.{HostPlay}
 use Rattle.host.specs.declared.answer.HostAttributes.{HostAttributes}
@@ -59,24 +53,14 @@ no_attributes = record {
   n_ticks = 0;
 }
 
--- whether there is a score-based estimate: 1 or 0
-abbrev pub is_score_based : MissCount → ℕ
-is_score_based misses.Absent = 0
-is_score_based (misses.Is x) = 1
-
--- its value, 0.0 where there is none
-abbrev pub score_based_value : MissCount → Float
-score_based_value misses.Absent = whole 0
-score_based_value (misses.Is x) = x
-
 -- accuracy and the three estimates of the misses
 abbrev pub host_estimates : Estimates → HostEstimates
 host_estimates e = record {
   accuracy = e.accuracy;
   combo_based = e.combo_based;
-  score_based = score_based_value e.score_based;
+  score_based = unwrap_or e.score_based (whole 0);
   effective = e.effective;
-  has_score_based = is_score_based e.score_based;
+  has_score_based = cond (is_some e.score_based) 1 0;
 }
 
 -- those of a refusal
@@ -84,29 +68,33 @@ abbrev pub no_estimates : HostEstimates
 no_estimates = record { accuracy = whole 0; combo_based = whole 0; score_based = whole 0; effective = whole 0; has_score_based = 0 }
 
 -- a map's attributes, or the number of the refusal and its offset, with every value 0
-abbrev pub map_answer_of : MapScore → MapAnswer
-map_answer_of (map_score.Map a) = record { status = 0; offset = 0; attributes = host_attributes a }
-map_answer_of (map_score.Refused number offset) = record { status = number; offset = offset; attributes = no_attributes }
+abbrev pub map_answer_of : OrRefusal ScoreAttributes → MapAnswer
+map_answer_of (good a) = record { status = 0; offset = 0; attributes = host_attributes a }
+map_answer_of (refused r) = record { status = number_of r.rule; offset = r.offset; attributes = no_attributes }
 
 -- a play's attributes and estimates
 abbrev pub play_answer_in : PlayScore → PlayAnswer
 play_answer_in s = record { status = 0; offset = 0; attributes = host_attributes s.attributes; estimates = host_estimates s.estimates }
 
--- none of a play that is refused
-abbrev pub play_answer_refused : ℕ → ℕ → PlayAnswer
-play_answer_refused number offset = record { status = number; offset = offset; attributes = no_attributes; estimates = no_estimates }
+-- none, beside a status
+abbrev pub play_answer_without : ℕ → ℕ → PlayAnswer
+play_answer_without status offset = record { status = status; offset = offset; attributes = no_attributes; estimates = no_estimates }
+
+-- of a play that is refused
+abbrev pub play_answer_refused : Refusal → PlayAnswer
+play_answer_refused r = play_answer_without (number_of r.rule) r.offset
 
 -- of a play that is given beside a file or a board
-abbrev pub given_answer_of : GivenPlay → PlayAnswer
-given_answer_of (given.Score s) = play_answer_in s
-given_answer_of (given.Refused number offset) = play_answer_refused number offset
+abbrev pub given_answer_of : OrRefusal PlayScore → PlayAnswer
+given_answer_of (good s) = play_answer_in s
+given_answer_of (refused r) = play_answer_refused r
 
 -- "a single call without factors" (02, §2): a play that is given beside a file
 unfoldable pub single_of : Outcome Scores → HostPlay → PlayAnswer
 single_of x p = given_answer_of (given_play_of (play_in p) x)
 
 -- of a play in a file: 255, which is no number of document 01, where the file is accepted and has no play at the index
-abbrev pub listed_answer_of : ListedPlay → PlayAnswer
-listed_answer_of (listed.Score s) = play_answer_in s
-listed_answer_of listed.NoPlay = play_answer_refused 255 0
-listed_answer_of (listed.Refused number offset) = play_answer_refused number offset
+abbrev pub listed_answer_of : OrRefusal (Option PlayScore) → PlayAnswer
+listed_answer_of (good (Some s)) = play_answer_in s
+listed_answer_of (good None) = play_answer_without 255 0
+listed_answer_of (refused r) = play_answer_refused r

@@ -1,11 +1,10 @@
 -- Settings as a host gives them, and what it is told of a map file.
-use Rattle.std.specs.Prelude.{ℕ}
+use Rattle.rules.specs.Refusals.{OrRefusal, good, refused, number_of}
+use Rattle.rules.specs.declared.refusal.Refusal.{Refusal}
 use Rattle.std.specs.Float.{binary32}
 use Rattle.std.specs.Float.Ieee.{of_bits}
 use Rattle.records.specs.declared.beatmap.Settings.{Settings}
 use Rattle.map_file.specs.declared.file.Reader.{Reader}
-use Rattle.play_reader.specs.declared.Answer.{Answer}
-use Rattle.play_reader.specs.declared.Answer.TheVariants as answer
 use Rattle.host.specs.declared.map.HostSettings.{HostSettings}
 use Rattle.host.specs.declared.map.MapInfo.{MapInfo}
 
@@ -24,16 +23,16 @@ map_info_in r = record {
 }
 
 -- of a refused one: the number and the offset, and every value 0
-abbrev pub map_info_refused : ℕ → ℕ → MapInfo
-map_info_refused number offset = record {
-  status = number;
-  offset = offset;
+abbrev pub map_info_refused : Refusal → MapInfo
+map_info_refused r = record {
+  status = number_of r.rule;
+  offset = r.offset;
   settings = record { hp = of_bits binary32 0; od = of_bits binary32 0; cs = of_bits binary32 0 };
   breaks = 0;
   objects = 0;
 }
 
 -- what a reading answers
-abbrev pub map_info_of : Answer → MapInfo
-map_info_of (answer.Map r) = map_info_in r
-map_info_of (answer.Refused number offset) = map_info_refused number offset
+abbrev pub map_info_of : OrRefusal Reader → MapInfo
+map_info_of (good reader) = map_info_in reader
+map_info_of (refused r) = map_info_refused r

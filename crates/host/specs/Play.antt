@@ -1,20 +1,14 @@
 -- A play as a host gives it. Its origin, its mark of a score and its score are read as those of a play's record are (`origin_of` and `score_of` of
 -- `records`): an origin above 2, a mark above 1 and a score that is not 0 with a mark of 0 are out of range.
-use Rattle.std.specs.Prelude.{ℕ}
+use Rattle.std.specs.Prelude.{ℕ, Option, Some, None}
 use Rattle.play_state.specs.Play.{origin_of, score_of}
-use Rattle.play_state.specs.declared.LegacyTotalScore.{LegacyTotalScore}
-use Rattle.play_state.specs.declared.LegacyTotalScore.TheVariants.{Absent}
-use Rattle.play_state.specs.declared.Origin.{Origin}
-use Rattle.play_state.specs.declared.Origin.TheVariants as origin
 use Rattle.play_state.specs.declared.OsuScoreOrigin.{OsuScoreOrigin}
 use Rattle.play_state.specs.declared.OsuScoreOrigin.TheVariants.{Stable}
 use Rattle.play_state.specs.declared.Play.{Play}
-use Rattle.play_state.specs.declared.Score.{Score}
-use Rattle.play_state.specs.declared.Score.TheVariants as score
 use Rattle.host.specs.declared.play.HostPlay.{HostPlay}
 
 -- the fields as they are, with an origin, a score and flags
-abbrev pub play_with : HostPlay → OsuScoreOrigin → LegacyTotalScore → ℕ → Play
+abbrev pub play_with : HostPlay → OsuScoreOrigin → Option ℕ → ℕ → Play
 play_with p o s flags = record {
   passed_objects = p.passed_objects;
   max_combo = p.max_combo;
@@ -35,13 +29,13 @@ play_with p o s flags = record {
 -- "8: a play field is out of range". A field that an enum cannot hold leaves the play with flags 0xffff, which every call refuses with 8, in the
 -- place where it checks 8: after 6, 11 and 4 of a read, after the whole file of `pjp_score_play` (proofs/OutOfRange)
 abbrev pub bad_play : HostPlay → Play
-bad_play p = play_with p Stable Absent 0xffff
+bad_play p = play_with p Stable None 0xffff
 
 -- any other play is taken as it is
-abbrev pub play_from : HostPlay → Origin → Score → Play
-play_from p (origin.Is o) (score.Is s) = play_with p o s p.flags
-play_from p (origin.Is o) score.Bad = bad_play p
-play_from p origin.Bad s = bad_play p
+abbrev pub play_from : HostPlay → Option OsuScoreOrigin → Option (Option ℕ) → Play
+play_from p (Some o) (Some s) = play_with p o s p.flags
+play_from p (Some o) None = bad_play p
+play_from p None s = bad_play p
 
 -- a host's play, by its origin, mark and score as a play's record would have them
 abbrev pub play_in : HostPlay → Play

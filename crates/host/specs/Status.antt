@@ -2,10 +2,8 @@
 use Rattle.std.specs.Prelude.{ℕ, ◌*◌, List, ltb, Float}
 use Rattle.rules.specs.Limits.{max_objects}
 use Rattle.entries.specs.Entry.{place_words}
-use Rattle.rules.specs.Refusals.{pick}
+use Rattle.rules.specs.Refusals.{OrRefusal, good, refused, number_of, pick}
 use Rattle.tree.specs.Size.{cap_of}
-use Rattle.board.specs.declared.place.Written.{Written}
-use Rattle.board.specs.declared.place.Written.TheVariants as written
 use Rattle.host.specs.declared.status.Status.{Status}
 
 -- "11: the board has fewer than 26 × C words": that many. No map has more than 8,192 objects, and there it is 0
@@ -13,10 +11,10 @@ abbrev pub board_words : ℕ → ℕ
 board_words n = pick (ltb max_objects n) 0 (place_words * cap_of n)
 
 -- 0 where the call wrote, else the number of the refusal and its offset
-abbrev pub status_of : Written → Status
-status_of written.Done = record { status = 0; offset = 0 }
-status_of (written.Refused number offset) = record { status = number; offset = offset }
+abbrev pub status_of : OrRefusal (Unit {0}) → Status
+status_of (good _) = record { status = 0; offset = 0 }
+status_of (refused r) = record { status = number_of r.rule; offset = r.offset }
 
 -- that, with what the board and the start table hold at last
-abbrev pub status_left : Written × List ℕ × List Float → Status × List ℕ × List Float
+abbrev pub status_left : OrRefusal (Unit {0}) × List ℕ × List Float → Status × List ℕ × List Float
 status_left (w, b, ts) = (status_of w, b, ts)

@@ -1,17 +1,16 @@
 // The values of a map and of a play, flat: an answer's status is 0, or the number of its refusal at the offset, with every value 0.
 ghost use Rattle.std.specs.Prelude.{◌≡◌};
-ghost use Rattle.host.specs.Answer.{host_attributes, no_attributes, is_score_based, score_based_value, host_estimates, no_estimates};
-ghost use Rattle.host.specs.Answer.{map_answer_of, play_answer_in, play_answer_refused, given_answer_of, listed_answer_of};
+ghost use Rattle.host.specs.Answer.{host_attributes, host_estimates};
+ghost use Rattle.host.specs.Answer.{map_answer_of, play_answer_in, play_answer_without, play_answer_refused, given_answer_of, listed_answer_of};
 
 use estimates::calculator::Estimates;
-use miss_calc::legacy_score_miss_calc::MissCount;
-use play_score::{GivenPlay, PlayScore};
-use scoring::score::{ListedPlay, MapScore};
+use play_score::PlayScore;
+use rules::refusal::Refusal;
 use simulator::attributes::ScoreAttributes;
 
 // Of the passed objects, or of all of a map.
 #[repr(C)]
-#[derive(Clone, Copy)]
+#[derive(Clone, Copy, Default)]
 pub struct HostAttributes {
     pub object_count: u64,
     pub multiplier: u64,
@@ -31,7 +30,7 @@ pub struct HostAttributes {
 
 // An absent score-based estimate is 0.0 with a mark of 0.
 #[repr(C)]
-#[derive(Clone, Copy)]
+#[derive(Clone, Copy, Default)]
 pub struct HostEstimates {
     pub accuracy: f64,
     pub combo_based: f64,
@@ -60,149 +59,120 @@ pub struct PlayAnswer {
 // No number of document 01: the file is accepted and has no play at the index.
 const NO_PLAY: u8 = 255;
 
-fn attributes_of(a: ScoreAttributes) -> HostAttributes
-    ensures { result ≡ host_attributes a }
-{
-    HostAttributes {
-        object_count: a.object_count,
-        multiplier: a.multiplier,
-        accuracy_score: a.legacy.accuracy_score,
-        combo_score: a.legacy.combo_score,
-        legacy_bonus_score: a.legacy.bonus_score.0,
-        standardised_bonus_score: a.standardised_bonus_score.0,
-        bonus_score_ratio: a.legacy.bonus_score_ratio,
-        nested_score_per_object: a.difficulty.nested_score_per_object,
-        max_combo: a.difficulty.max_combo,
-        n_circles: a.difficulty.n_circles,
-        n_sliders: a.difficulty.n_sliders,
-        n_spinners: a.difficulty.n_spinners,
-        n_repeats: a.difficulty.n_repeats,
-        n_ticks: a.difficulty.n_ticks,
+impl From<ScoreAttributes> for HostAttributes {
+    ghost from_gives = { λ a r. r ≡ host_attributes a };
+
+    fn from(a: ScoreAttributes) -> HostAttributes {
+        HostAttributes {
+            object_count: a.object_count,
+            multiplier: a.multiplier,
+            accuracy_score: a.legacy.accuracy_score,
+            combo_score: a.legacy.combo_score,
+            legacy_bonus_score: a.legacy.bonus_score.0,
+            standardised_bonus_score: a.standardised_bonus_score.0,
+            bonus_score_ratio: a.legacy.bonus_score_ratio,
+            nested_score_per_object: a.difficulty.nested_score_per_object,
+            max_combo: a.difficulty.max_combo,
+            n_circles: a.difficulty.n_circles,
+            n_sliders: a.difficulty.n_sliders,
+            n_spinners: a.difficulty.n_spinners,
+            n_repeats: a.difficulty.n_repeats,
+            n_ticks: a.difficulty.n_ticks,
+        }
     }
 }
 
-fn no_attributes() -> HostAttributes
-    ensures { result ≡ no_attributes }
-{
-    HostAttributes {
-        object_count: 0,
-        multiplier: 0,
-        accuracy_score: 0,
-        combo_score: 0,
-        legacy_bonus_score: 0,
-        standardised_bonus_score: 0,
-        bonus_score_ratio: 0.0,
-        nested_score_per_object: 0.0,
-        max_combo: 0,
-        n_circles: 0,
-        n_sliders: 0,
-        n_spinners: 0,
-        n_repeats: 0,
-        n_ticks: 0,
+impl From<Estimates> for HostEstimates {
+    ghost from_gives = { λ e r. r ≡ host_estimates e };
+
+    #[tactic(auto, unfolding(numbers::proofs::Literals::of_bits, numbers::proofs::Literals::of_int))]
+    fn from(e: Estimates) -> HostEstimates {
+        let misses = e.score_based;
+        HostEstimates {
+            accuracy: e.accuracy,
+            combo_based: e.combo_based,
+            score_based: misses.unwrap_or(0.0),
+            effective: e.effective,
+            has_score_based: u8::from(misses.is_some()),
+        }
     }
 }
 
-fn has_score_based(m: MissCount) -> u8
-    ensures { result ≡ is_score_based m }
-{
-    match m {
-        MissCount::Absent => 0,
-        MissCount::Is(_) => 1,
+// The attributes of a map.
+impl From<Result<ScoreAttributes, Refusal>> for MapAnswer {
+    ghost from_gives = { λ score r. r ≡ map_answer_of score };
+
+    #[tactic(auto, unfolding(numbers::proofs::Literals::of_bits, numbers::proofs::Literals::of_int))]
+    fn from(score: Result<ScoreAttributes, Refusal>) -> MapAnswer {
+        match score {
+            Ok(a) => MapAnswer {
+                status: 0,
+                offset: 0,
+                attributes: a.into(),
+            },
+            Err(refusal) => MapAnswer {
+                status: refusal.rule.into(),
+                offset: refusal.offset,
+                attributes: HostAttributes::default(),
+            },
+        }
     }
 }
 
-fn score_based(m: MissCount) -> f64
-    ensures { result ≡ score_based_value m }
-{
-    match m {
-        MissCount::Absent => 0.0,
-        MissCount::Is(x) => x,
-    }
-}
+impl From<PlayScore> for PlayAnswer {
+    ghost from_gives = { λ score r. r ≡ play_answer_in score };
 
-fn estimates_of(e: Estimates) -> HostEstimates
-    ensures { result ≡ host_estimates e }
-{
-    let misses = e.score_based;
-    HostEstimates {
-        accuracy: e.accuracy,
-        combo_based: e.combo_based,
-        score_based: score_based(misses),
-        effective: e.effective,
-        has_score_based: has_score_based(misses),
-    }
-}
-
-fn no_estimates() -> HostEstimates
-    ensures { result ≡ no_estimates }
-{
-    HostEstimates {
-        accuracy: 0.0,
-        combo_based: 0.0,
-        score_based: 0.0,
-        effective: 0.0,
-        has_score_based: 0,
-    }
-}
-
-pub fn map_answer_of(score: MapScore) -> MapAnswer
-    ensures { result ≡ map_answer_of score }
-{
-    match score {
-        MapScore::Map(a) => MapAnswer {
+    fn from(score: PlayScore) -> PlayAnswer {
+        PlayAnswer {
             status: 0,
             offset: 0,
-            attributes: attributes_of(a),
-        },
-        MapScore::Refused { number, offset } => MapAnswer {
-            status: number,
-            offset,
-            attributes: no_attributes(),
-        },
+            attributes: score.attributes.into(),
+            estimates: score.estimates.into(),
+        }
     }
 }
 
-fn play_answer_in(score: PlayScore) -> PlayAnswer
-    ensures { result ≡ play_answer_in score }
-{
-    let attributes = score.attributes;
-    let estimates = score.estimates;
-    PlayAnswer {
-        status: 0,
-        offset: 0,
-        attributes: attributes_of(attributes),
-        estimates: estimates_of(estimates),
-    }
-}
-
-pub fn play_answer_refused(number: u8, offset: usize) -> PlayAnswer
-    ensures { result ≡ play_answer_refused number offset }
+#[tactic(auto, unfolding(numbers::proofs::Literals::of_bits, numbers::proofs::Literals::of_int))]
+fn play_answer_without(status: u8, offset: usize) -> PlayAnswer
+    ensures { result ≡ play_answer_without status offset }
 {
     PlayAnswer {
-        status: number,
+        status,
         offset,
-        attributes: no_attributes(),
-        estimates: no_estimates(),
+        attributes: HostAttributes::default(),
+        estimates: HostEstimates::default(),
+    }
+}
+
+impl From<Refusal> for PlayAnswer {
+    ghost from_gives = { λ refusal r. r ≡ play_answer_refused refusal };
+
+    fn from(refusal: Refusal) -> PlayAnswer {
+        play_answer_without(refusal.rule.into(), refusal.offset)
     }
 }
 
 // Of a play that is given beside a file or a board.
-pub fn given_answer_of(play: GivenPlay) -> PlayAnswer
-    ensures { result ≡ given_answer_of play }
-{
-    match play {
-        GivenPlay::Score(score) => play_answer_in(score),
-        GivenPlay::Refused { number, offset } => play_answer_refused(number, offset),
+impl From<Result<PlayScore, Refusal>> for PlayAnswer {
+    ghost from_gives = { λ play r. r ≡ given_answer_of play };
+
+    fn from(play: Result<PlayScore, Refusal>) -> PlayAnswer {
+        match play {
+            Ok(score) => score.into(),
+            Err(refusal) => refusal.into(),
+        }
     }
 }
 
 // Of a play in a file.
-pub fn listed_answer_of(play: ListedPlay) -> PlayAnswer
-    ensures { result ≡ listed_answer_of play }
-{
-    match play {
-        ListedPlay::Score(score) => play_answer_in(score),
-        ListedPlay::NoPlay => play_answer_refused(NO_PLAY, 0),
-        ListedPlay::Refused { number, offset } => play_answer_refused(number, offset),
+impl From<Result<Option<PlayScore>, Refusal>> for PlayAnswer {
+    ghost from_gives = { λ play r. r ≡ listed_answer_of play };
+
+    fn from(play: Result<Option<PlayScore>, Refusal>) -> PlayAnswer {
+        match play {
+            Ok(Some(score)) => score.into(),
+            Ok(None) => play_answer_without(NO_PLAY, 0),
+            Err(refusal) => refusal.into(),
+        }
     }
 }

@@ -2,9 +2,9 @@
 ghost use Rattle.std.specs.Prelude.{◌≡◌};
 ghost use Rattle.host.specs.Breaks.{factors_in, with_slider_breaks, added_to, answer_with};
 
-use crate::answer::{HostAttributes, HostEstimates, PlayAnswer, play_answer_refused};
+use crate::answer::{HostAttributes, HostEstimates, PlayAnswer};
 use play_state::Play;
-use rules::refusal;
+use rules::refusal::Rule;
 use slider_breaks::calculator::{SliderBreaks, SliderFactors, slider_breaks};
 use slider_breaks::has_bad_factors;
 
@@ -33,19 +33,14 @@ pub struct BreaksAnswer {
     pub slider_breaks: HostSliderBreaks,
 }
 
-// What factors add to an answer.
-#[derive(Clone, Copy)]
-pub enum Added {
-    BadFactors,
-    SliderBreaks(SliderBreaks),
-}
+impl From<HostFactors> for SliderFactors {
+    ghost from_gives = { λ f r. r ≡ factors_in f };
 
-pub fn factors_in(f: HostFactors) -> SliderFactors
-    ensures { result ≡ factors_in f }
-{
-    SliderFactors {
-        aim: f.aim,
-        speed: f.speed,
+    fn from(f: HostFactors) -> SliderFactors {
+        SliderFactors {
+            aim: f.aim,
+            speed: f.speed,
+        }
     }
 }
 
@@ -68,29 +63,31 @@ fn with_slider_breaks(answer: PlayAnswer, b: SliderBreaks) -> BreaksAnswer
 
 // What the factors add to the answer of the same call without them: nothing to a refusal. It starts from that answer, and not from the engine's, so
 // that the engine's call has one caller and is compiled into it.
-pub fn added_by(play: Play, factors: SliderFactors, answer: PlayAnswer) -> Added
+#[tactic(auto, unfolding(crate::specs::Breaks::added_to))]
+pub fn added_by(
+    play: Play,
+    factors: SliderFactors,
+    answer: PlayAnswer,
+) -> Result<SliderBreaks, Rule>
     ensures { result ≡ added_to play factors answer }
 {
     if answer.status != 0 {
-        return Added::SliderBreaks(SliderBreaks::none());
+        return Ok(SliderBreaks::none());
     }
     if has_bad_factors(factors) {
-        return Added::BadFactors;
+        return Err(Rule::Factor);
     }
     let highest = answer.attributes.max_combo;
     let effective = answer.estimates.effective;
-    Added::SliderBreaks(slider_breaks(play, highest, effective, factors))
+    Ok(slider_breaks(play, highest, effective, factors))
 }
 
 // What a call with factors answers: the refusal of the same call without them, then 14, then the values.
-pub fn answer_with(answer: PlayAnswer, added: Added) -> BreaksAnswer
+pub fn answer_with(answer: PlayAnswer, added: Result<SliderBreaks, Rule>) -> BreaksAnswer
     ensures { result ≡ answer_with answer added }
 {
     match added {
-        Added::BadFactors => {
-            let refused = play_answer_refused(refusal::FACTOR, 0);
-            with_slider_breaks(refused, SliderBreaks::none())
-        }
-        Added::SliderBreaks(b) => with_slider_breaks(answer, b),
+        Err(rule) => with_slider_breaks(rule.at(0).into(), SliderBreaks::none()),
+        Ok(b) => with_slider_breaks(answer, b),
     }
 }

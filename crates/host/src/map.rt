@@ -3,11 +3,11 @@ ghost use Rattle.std.specs.Prelude.{◌≡◌};
 ghost use Rattle.host.specs.Map.{settings_in, map_info_in, map_info_refused, map_info_of};
 
 use map_file::file::Reader;
-use play_reader::Answer;
 use records::beatmap::Settings;
+use rules::refusal::Refusal;
 
 #[repr(C)]
-#[derive(Clone, Copy)]
+#[derive(Clone, Copy, Default)]
 pub struct HostSettings {
     pub hp: f32,
     pub od: f32,
@@ -25,53 +25,57 @@ pub struct MapInfo {
     pub objects: u64,
 }
 
-pub fn settings_in(s: HostSettings) -> Settings
-    ensures { result ≡ settings_in s }
-{
-    Settings {
-        hp: s.hp,
-        od: s.od,
-        cs: s.cs,
+impl From<HostSettings> for Settings {
+    ghost from_gives = { λ s r. r ≡ settings_in s };
+
+    fn from(s: HostSettings) -> Settings {
+        Settings {
+            hp: s.hp,
+            od: s.od,
+            cs: s.cs,
+        }
     }
 }
 
-fn map_info_in(reader: Reader) -> MapInfo
-    ensures { result ≡ map_info_in reader }
-{
-    MapInfo {
-        status: 0,
-        offset: 0,
-        settings: HostSettings {
-            hp: reader.settings.hp,
-            od: reader.settings.od,
-            cs: reader.settings.cs,
-        },
-        breaks: reader.counts.breaks,
-        objects: reader.counts.objects,
+impl From<Reader> for MapInfo {
+    ghost from_gives = { λ reader r. r ≡ map_info_in reader };
+
+    fn from(reader: Reader) -> MapInfo {
+        MapInfo {
+            status: 0,
+            offset: 0,
+            settings: HostSettings {
+                hp: reader.settings.hp,
+                od: reader.settings.od,
+                cs: reader.settings.cs,
+            },
+            breaks: reader.counts.breaks,
+            objects: reader.counts.objects,
+        }
     }
 }
 
-fn map_info_refused(number: u8, offset: usize) -> MapInfo
-    ensures { result ≡ map_info_refused number offset }
-{
-    MapInfo {
-        status: number,
-        offset,
-        settings: HostSettings {
-            hp: 0.0,
-            od: 0.0,
-            cs: 0.0,
-        },
-        breaks: 0,
-        objects: 0,
+impl From<Refusal> for MapInfo {
+    ghost from_gives = { λ refusal r. r ≡ map_info_refused refusal };
+
+    fn from(refusal: Refusal) -> MapInfo {
+        MapInfo {
+            status: refusal.rule.into(),
+            offset: refusal.offset,
+            settings: HostSettings::default(),
+            breaks: 0,
+            objects: 0,
+        }
     }
 }
 
-pub fn map_info_of(answer: Answer) -> MapInfo
-    ensures { result ≡ map_info_of answer }
-{
-    match answer {
-        Answer::Map(reader) => map_info_in(reader),
-        Answer::Refused { number, offset } => map_info_refused(number, offset),
+impl From<Result<Reader, Refusal>> for MapInfo {
+    ghost from_gives = { λ answer r. r ≡ map_info_of answer };
+
+    fn from(answer: Result<Reader, Refusal>) -> MapInfo {
+        match answer {
+            Ok(reader) => reader.into(),
+            Err(refusal) => refusal.into(),
+        }
     }
 }

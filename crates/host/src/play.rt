@@ -2,10 +2,7 @@
 ghost use Rattle.std.specs.Prelude.{◌≡◌};
 ghost use Rattle.host.specs.Play.{play_with, bad_play, play_in};
 
-use play_state::{
-    GameMods, LegacyTotalScore, Origin, OsuHitResults, OsuScoreOrigin, Play, Score, origin_of,
-    score_of,
-};
+use play_state::{GameMods, OsuHitResults, OsuScoreOrigin, Play, origin_of, score_of};
 
 // The fields of a play's record, those of 8 bytes first.
 #[repr(C)]
@@ -30,7 +27,7 @@ pub struct HostPlay {
 // Flags that rule 8 refuses in every call: all bits, where only the lowest 9 have a meaning.
 const BAD_FLAGS: u16 = 0xffff;
 
-fn play_with(p: HostPlay, origin: OsuScoreOrigin, score: LegacyTotalScore, flags: u16) -> Play
+fn play_with(p: HostPlay, origin: OsuScoreOrigin, score: Option<u32>, flags: u16) -> Play
     ensures { result ≡ play_with p origin score flags }
 {
     Play {
@@ -58,22 +55,19 @@ fn play_with(p: HostPlay, origin: OsuScoreOrigin, score: LegacyTotalScore, flags
 fn bad_play(p: HostPlay) -> Play
     ensures { result ≡ bad_play p }
 {
-    play_with(
-        p,
-        OsuScoreOrigin::Stable,
-        LegacyTotalScore::Absent,
-        BAD_FLAGS,
-    )
+    play_with(p, OsuScoreOrigin::Stable, None, BAD_FLAGS)
 }
 
-pub fn play_in(p: HostPlay) -> Play
-    ensures { result ≡ play_in p }
-{
-    let Origin::Is(origin) = origin_of(p.origin as u64) else {
-        return bad_play(p);
-    };
-    let Score::Is(score) = score_of(p.has_score as u64, p.score) else {
-        return bad_play(p);
-    };
-    play_with(p, origin, score, p.flags)
+impl From<HostPlay> for Play {
+    ghost from_gives = { λ p r. r ≡ play_in p };
+
+    fn from(p: HostPlay) -> Play {
+        let Some(origin) = origin_of(p.origin as u64) else {
+            return bad_play(p);
+        };
+        let Some(score) = score_of(p.has_score as u64, p.score) else {
+            return bad_play(p);
+        };
+        play_with(p, origin, score, p.flags)
+    }
 }

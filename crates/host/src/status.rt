@@ -2,7 +2,7 @@
 ghost use Rattle.std.specs.Prelude.{◌≡◌};
 ghost use Rattle.host.specs.Status.{status_of};
 
-use board::place::Written;
+use rules::refusal::Refusal;
 
 // 0, or the number of the refusal and its offset.
 #[repr(C)]
@@ -12,17 +12,19 @@ pub struct Status {
     pub offset: usize,
 }
 
-pub fn status_of(written: Written) -> Status
-    ensures { result ≡ status_of written }
-{
-    match written {
-        Written::Done => Status {
-            status: 0,
-            offset: 0,
-        },
-        Written::Refused { number, offset } => Status {
-            status: number,
-            offset,
-        },
+impl From<Result<(), Refusal>> for Status {
+    ghost from_gives = { λ written r. r ≡ status_of written };
+
+    fn from(written: Result<(), Refusal>) -> Status {
+        match written {
+            Ok(()) => Status {
+                status: 0,
+                offset: 0,
+            },
+            Err(refusal) => Status {
+                status: refusal.rule.into(),
+                offset: refusal.offset,
+            },
+        }
     }
 }

@@ -1,4 +1,5 @@
 -- The most bytes that a line takes: its words, 20 digits for each number and 16 for each float, and the spaces between them. Assumes nothing.
+use Rattle.std.specs.Prelude.{Option, Some, None}
 use Prim.Native.Nat.{ℕ, ◌^◌, ◌≤◌, ◌<◌}
 use native.Mathlib.Omega.{arith}
 use lib.Ieee.{Float}
@@ -6,8 +7,9 @@ use lib.ListN.{length, length-append}
 use Rattle.text.proofs.Numbers.{length_below, length_decimal, length_float}
 use Rattle.simulator.specs.declared.attributes.ScoreAttributes.{ScoreAttributes}
 use Rattle.estimates.specs.declared.calculator.Estimates.{Estimates}
-use Rattle.miss_calc.specs.declared.legacy_score_miss_calc.MissCount.{MissCount}
-use Rattle.miss_calc.specs.declared.legacy_score_miss_calc.MissCount.TheVariants as misses
+use Rattle.rules.specs.Refusals.{number_of}
+use Rattle.rules.specs.declared.refusal.Refusal.{Refusal}
+use Rattle.rules.specs.declared.refusal.Rule.{Rule}
 use Rattle.lines.specs.Lines.{number_field, float_field, score_based_field, map_line, play_line, refused_line}
 
 length-number_field : (n : ℕ) → n < 2 ^ 64 → length (number_field n) ≤ 21
@@ -18,10 +20,10 @@ length-float_field : (x : Float) → length (float_field x) ≤ 17
 unfolding float_field
 length-float_field x = simp length-append (omega (arith, length_float x))
 
-length-score_based_field : (m : MissCount) → length (score_based_field m) ≤ 17
+length-score_based_field : (m : Option Float) → length (score_based_field m) ≤ 17
 unfolding score_based_field
-length-score_based_field misses.Absent = omega arith
-length-score_based_field (misses.Is x) = length-float_field x
+length-score_based_field None = omega arith
+length-score_based_field (Some x) = length-float_field x
 
 -- the numbers of a map's line fit 64 bits
 pub record Words (a : ScoreAttributes) : Type 0 where
@@ -61,13 +63,11 @@ length-play_line index e h =
       length-float_field e.effective,
     ))
 
-pub length-refused_line : (number offset : ℕ) → number < 2 ^ 64 → offset < 2 ^ 64 → length (refused_line number offset) ≤ 53
-unfolding refused_line
-length-refused_line number offset h h' =
-    simp length-append (omega (arith, length-number_field number h, length-number_field offset h'))
+-- a rule's number has at most two digits
+number_below : (r : Rule) → number_of r < 10 ^ 2
+number_below r = grind arith
 
--- a refusal's number is a byte: at most three digits
-pub length-refusal : (number offset : ℕ) → number < 256 → offset < 2 ^ 64 → length (refused_line number offset) ≤ 36
+pub length-refused_line : (r : Refusal) → r.offset < 2 ^ 64 → length (refused_line r) ≤ 35
 unfolding refused_line number_field
-length-refusal number offset h h' =
-    simp length-append (omega (arith, length_below 2 number (omega arith), length_decimal offset h'))
+length-refused_line r h =
+    simp length-append (omega (arith, length_below 1 (number_of r.rule) (number_below r.rule), length_decimal r.offset h))

@@ -1,12 +1,12 @@
 -- Document 01, "Runs to reproduce": the lines of the listing program. A field is a space and its text, and every line ends in a line feed.
 -- Definitions only.
-use Rattle.std.specs.Prelude.{ℕ, List, ◌++◌, Float}
+use Rattle.rules.specs.Refusals.{number_of}
+use Rattle.rules.specs.declared.refusal.Refusal.{Refusal}
+use Rattle.std.specs.Prelude.{ℕ, List, ◌++◌, Float, Option, Some, None}
 use Rattle.text.specs.Ascii.{ascii}
 use Rattle.text.specs.Numbers.{decimal_of, float_text}
 use Rattle.simulator.specs.declared.attributes.ScoreAttributes.{ScoreAttributes}
 use Rattle.estimates.specs.declared.calculator.Estimates.{Estimates}
-use Rattle.miss_calc.specs.declared.legacy_score_miss_calc.MissCount.{MissCount}
-use Rattle.miss_calc.specs.declared.legacy_score_miss_calc.MissCount.TheVariants as misses
 
 -- a number in decimal
 unfoldable pub number_field : ℕ → List ℕ
@@ -17,9 +17,9 @@ unfoldable pub float_field : Float → List ℕ
 float_field x = ascii " " ++ float_text x
 
 -- "score-based (`-` if absent)"
-unfoldable pub score_based_field : MissCount → List ℕ
-score_based_field misses.Absent = ascii " -"
-score_based_field (misses.Is x) = float_field x
+unfoldable pub score_based_field : Option Float → List ℕ
+score_based_field None = ascii " -"
+score_based_field (Some x) = float_field x
 
 -- "Map, of all objects: count, multiplier, accuracy, combo points, ratio bits, legacy bonus, max combo, nested bits"
 unfoldable pub map_line : ScoreAttributes → List ℕ
@@ -47,5 +47,5 @@ play_line index e =
     ++ ascii "\n"
 
 -- "`refused N at OFFSET`"
-unfoldable pub refused_line : ℕ → ℕ → List ℕ
-refused_line number offset = ascii "refused" ++ number_field number ++ ascii " at" ++ number_field offset ++ ascii "\n"
+unfoldable pub refused_line : Refusal → List ℕ
+refused_line r = ascii "refused" ++ number_field (number_of r.rule) ++ ascii " at" ++ number_field r.offset ++ ascii "\n"

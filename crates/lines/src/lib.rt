@@ -7,11 +7,12 @@ ghost use Rattle.text.specs.Space.{put_at, behind};
 ghost use Rattle.lines.specs.Lines.{number_field, float_field, score_based_field, map_line, play_line, refused_line};
 
 use estimates::calculator::Estimates;
-use miss_calc::legacy_score_miss_calc::MissCount;
+use rules::refusal::Refusal;
 use simulator::attributes::ScoreAttributes;
 use text::{put_decimal, put_float, put_text};
 
 // A space and a number.
+#[tactic(auto, using(text::proofs::Space::pieces), unfolding(crate::specs::Lines::number_field))]
 fn put_number(space: &mut [u8], at: usize, n: u64) -> usize
     ensures value { result ≡ behind space.old at (number_field n) }
     ensures space_after { space.new ≡ put_at space.old at (number_field n) }
@@ -21,6 +22,7 @@ fn put_number(space: &mut [u8], at: usize, n: u64) -> usize
 }
 
 // A space and the bits of a float.
+#[tactic(auto, using(text::proofs::Space::pieces), unfolding(crate::specs::Lines::float_field))]
 fn put_bits(space: &mut [u8], at: usize, x: f64) -> usize
     ensures value { result ≡ behind space.old at (float_field x) }
     ensures space_after { space.new ≡ put_at space.old at (float_field x) }
@@ -36,16 +38,18 @@ fn end_line(space: &mut [u8], at: usize) -> usize
     put_text(space, at, b"\n")
 }
 
-fn put_score_based(space: &mut [u8], at: usize, m: MissCount) -> usize
+#[tactic(auto, using(text::proofs::Space::pieces), unfolding(crate::specs::Lines::score_based_field))]
+fn put_score_based(space: &mut [u8], at: usize, m: Option<f64>) -> usize
     ensures value { result ≡ behind space.old at (score_based_field m) }
     ensures space_after { space.new ≡ put_at space.old at (score_based_field m) }
 {
     match m {
-        MissCount::Absent => put_text(space, at, b" -"),
-        MissCount::Is(x) => put_bits(space, at, x),
+        None => put_text(space, at, b" -"),
+        Some(x) => put_bits(space, at, x),
     }
 }
 
+#[tactic(auto, using(text::proofs::Space::pieces), unfolding(crate::specs::Lines::map_line))]
 pub fn put_map_line(space: &mut [u8], at: usize, a: ScoreAttributes) -> usize
     ensures value { result ≡ behind space.old at (map_line a) }
     ensures space_after { space.new ≡ put_at space.old at (map_line a) }
@@ -62,6 +66,7 @@ pub fn put_map_line(space: &mut [u8], at: usize, a: ScoreAttributes) -> usize
     end_line(space, at)
 }
 
+#[tactic(auto, using(text::proofs::Space::pieces), unfolding(crate::specs::Lines::play_line))]
 pub fn put_play_line(space: &mut [u8], at: usize, index: u64, e: Estimates) -> usize
     ensures value { result ≡ behind space.old at (play_line index e) }
     ensures space_after { space.new ≡ put_at space.old at (play_line index e) }
@@ -70,19 +75,19 @@ pub fn put_play_line(space: &mut [u8], at: usize, index: u64, e: Estimates) -> u
     let at = put_number(space, at, index);
     let at = put_bits(space, at, e.accuracy);
     let at = put_bits(space, at, e.combo_based);
-    let score_based = e.score_based;
-    let at = put_score_based(space, at, score_based);
+    let at = put_score_based(space, at, e.score_based);
     let at = put_bits(space, at, e.effective);
     end_line(space, at)
 }
 
-pub fn put_refused_line(space: &mut [u8], at: usize, number: u64, offset: u64) -> usize
-    ensures value { result ≡ behind space.old at (refused_line number offset) }
-    ensures space_after { space.new ≡ put_at space.old at (refused_line number offset) }
+#[tactic(auto, using(text::proofs::Space::pieces), unfolding(crate::specs::Lines::refused_line))]
+pub fn put_refused_line(space: &mut [u8], at: usize, refusal: Refusal) -> usize
+    ensures value { result ≡ behind space.old at (refused_line refusal) }
+    ensures space_after { space.new ≡ put_at space.old at (refused_line refusal) }
 {
     let at = put_text(space, at, b"refused");
-    let at = put_number(space, at, number);
+    let at = put_number(space, at, u64::from(u8::from(refusal.rule)));
     let at = put_text(space, at, b" at");
-    let at = put_number(space, at, offset);
+    let at = put_number(space, at, refusal.offset as u64);
     end_line(space, at)
 }

@@ -1,15 +1,9 @@
 -- Reads in place: what was read stands at the front of the space.
 use Rattle.std.proofs.Common.{◌≡◌, ℕ, ◌+◌, ◌-◌, ◌<◌, ◌≤◌, List, ◌++◌, Option, Some, None, IfSome, length, take, drop, sym, ap, subst, ◌∙◌, length-take-le, take_all, append-nil, ◌⊎◌, inl, inr, arith}
 use Rattle.std.proofs.Math.Seq.{take-add, take-append_seam}
-use Rattle.std.proofs.lemmas.List.{drop_at, take-append-le}
 use Rattle.std.proofs.lemmas.Bool.{cases_lt}
 use Rattle.std.proofs.KnownBytes.{Consumes-trans}
 use Rattle.std.specs.Io.KnownBytes.{Consumes, IsAtEnd}
-
--- what one read puts behind a place
-pub read_behind : (at n : ℕ) (xs part rest : List ℕ) → at ≤ length xs → n ≤ length part → take n (drop at (take at xs ++ (part ++ rest))) ≡ take n part
-read_behind at n xs part rest within fits =
-    ap (take n) (drop_at (take at xs) (part ++ rest) at (length-take-le at xs within)) ∙ take-append-le n part rest fits
 
 -- the front up to a place, and what one read put behind it
 pub front_grows : (a b c : Option (List ℕ)) (old new : List ℕ) (at place : ℕ) → at ≤ place → take at new ≡ take at old

@@ -1,17 +1,17 @@
 -- The program's space is longer than any listing, so that each stands whole at its front.
+use Rattle.std.specs.Prelude.{Some, None}
 use Rattle.std.proofs.Common.{◌≡◌, ℕ, ◌<◌, ◌≤◌, ◌⊎◌, List, length, take, ap, ◌∙◌, inl, inr, length-take-le, take_all, arith}
 use Rattle.std.proofs.lemmas.Bool.{cases_lt, lt-ltb}
 use Rattle.text.specs.Space.{put_at}
 use Rattle.text.proofs.Space.{take_put_front}
 use Rattle.listing.specs.Listing.{input_text, listed_of}
-use Rattle.listing.specs.declared.Listed.TheVariants as listed
 use Rattle.listing.proofs.Fits.{listing_short, listing_told}
 
 module _ (input old new : List ℕ) (after : new ≡ put_at old 0 (input_text input)) (long : length old ≡ 262144) where
-  pub no_room : listed.NoRoom ≡ listed_of (input_text input) (length old) → ⊥
+  pub no_room : None ≡ listed_of (input_text input) (length old) → ⊥
   no_room was = let told = was ∙ ap (listed_of (input_text input)) long ∙ listing_told input in cc
 
-  pub front_listed : (count : ℕ) → listed.Text count ≡ listed_of (input_text input) (length old) → take count new ≡ input_text input
+  pub front_listed : (count : ℕ) → Some count ≡ listed_of (input_text input) (length old) → take count new ≡ input_text input
   front_listed count was =
       let told = was ∙ ap (listed_of (input_text input)) long ∙ listing_told input in
       let whole : count ≡ length (input_text input) = cc in

@@ -9,7 +9,7 @@ ghost use Rattle.listing.specs.Listing.{input_text};
 ghost use Rattle.list.specs.Places.{MovedWithin, MovesBytes};
 
 use anyhow::{Context, Result};
-use listing::{Listed, MAX_INPUT, list_input};
+use listing::{MAX_INPUT, list_input};
 use std::io;
 use std::io::{ErrorKind, Read, Write};
 
@@ -19,15 +19,9 @@ const INPUT: usize = MAX_INPUT + 1;
 // More than any listing has: 65,536 bytes hold at most 1,489 plays, whose lines have at most 94 bytes, as the map's has at most 164.
 const LISTING: usize = 262144;
 
-// What a read did: it moved bytes, up to a place, which is the old place where a signal came first; or nothing is left, of the input or of the room.
-#[derive(Drop)]
-enum Moved {
-    To(usize),
-    End,
-}
-
-// One read behind the place.
-fn read_some<R: Read>(reader: &mut R, space: &mut [u8], at: usize) -> io::Result<Moved>
+// One read behind the place. It moves bytes, up to a place, which is the old place where a signal came first; or nothing is left, of the input or of
+// the room.
+fn read_some<R: Read>(reader: &mut R, space: &mut [u8], at: usize) -> io::Result<Option<usize>>
     ensures within { IfOk result (MovedWithin (length space.old)) }
     ensures front { take at space.new ≡ take at space.old }
     ensures bytes { IfOk result (MovesBytes at space.new (R.remaining reader.old) (R.remaining reader.new)) }
@@ -35,12 +29,12 @@ fn read_some<R: Read>(reader: &mut R, space: &mut [u8], at: usize) -> io::Result
     ensures retried { IfErr result (λ e. error_kind e ≢ ErrorKind.Interrupted) }
 {
     if space.len() <= at {
-        return Ok(Moved::End);
+        return Ok(None);
     }
     match reader.read(&mut space[at..]) {
-        Ok(0) => Ok(Moved::End),
-        Ok(count) => Ok(Moved::To(at + count)),
-        Err(e) if e.kind() == ErrorKind::Interrupted => Ok(Moved::To(at)),
+        Ok(0) => Ok(None),
+        Ok(count) => Ok(Some(at + count)),
+        Err(e) if e.kind() == ErrorKind::Interrupted => Ok(Some(at)),
         Err(e) => Err(e),
     }
 }
@@ -57,8 +51,8 @@ fn read_input<R: Read>(reader: &mut R, space: &mut [u8]) -> io::Result<usize>
     let mut at = 0;
     for _ in 0..u64::MAX {
         match read_some(reader, space, at)? {
-            Moved::To(place) => at = place,
-            Moved::End => return Ok(at),
+            Some(place) => at = place,
+            None => return Ok(at),
         }
     }
     Err(io::Error::from(ErrorKind::TimedOut))
@@ -70,11 +64,11 @@ fn write_listing<W: Write>(input: &[u8], writer: &mut W) -> Result<()>
 {
     let mut space = [0u8; LISTING];
     match list_input(input, &mut space) {
-        Listed::Text(count) => writer
+        Some(count) => writer
             .write_all(&space[..count])
             .context("standard output")?,
         // The space is longer than any listing: `listing_told` of listing/proofs/Fits.
-        Listed::NoRoom => unreachable!(),
+        None => unreachable!(),
     }
     Ok(())
 }

@@ -1,5 +1,7 @@
 -- The listing of any input leaves room in the program's space: a line is short, a play takes 44 bytes of the input, and a longer input than 65,536
 -- bytes gets one line. Assumes nothing.
+use Rattle.rules.specs.declared.refusal.Rule.{Rule}
+use Rattle.std.specs.Prelude.{Some}
 use mathlib.Core.Path.{◌≡◌, refl, ap, ◌∙◌, subst}
 use mathlib.Core.Bool.{Bool, true, false}
 use mathlib.Core.List.{List, [], ◌∷◌, ◌++◌}
@@ -9,7 +11,7 @@ use borrow.Author.Tests.{ltb-false, lt-ltb}
 use lib.Dec.{eqb, ltb}
 use lib.ListN.{length, take, length-append, length-drop}
 use Rattle.rules.specs.Limits.{max_objects}
-use Rattle.rules.specs.Refusals.{Checked, good, refused, pick}
+use Rattle.rules.specs.Refusals.{Checked, good, refused, refusal_at, pick, MARK, INPUT}
 use Rattle.records.specs.Objects.{Object}
 use Rattle.records.specs.Records.{Content, header, break, object, play, FoundRecord}
 use Rattle.map_file.specs.File.{Map, File, Result, accepted, refused_at, with_record, follow, ended, file_from, nothing_read, file_of}
@@ -30,10 +32,8 @@ use Rattle.scoring.specs.Scores.{Outcome, refusal, values, at_offset, then, Scor
 use Rattle.play_score.specs.declared.PlayScore.{PlayScore}
 use Rattle.scoring.proofs.Answers.{no_number, values_within}
 use Rattle.lines.specs.Lines.{refused_line}
-use Rattle.lines.proofs.Lengths.{Words, length-map_line, length-play_line, length-refusal}
+use Rattle.lines.proofs.Lengths.{Words, length-map_line, length-play_line, length-refused_line}
 use Rattle.listing.specs.Listing.{play_lines, text_of, file_text, input_text, listed_of}
-use Rattle.listing.specs.declared.Listed.TheVariants as listed
-use Rattle.scoring.proofs.Rules.{refusal_rule}
 
 -- ---- the numbers of a map's line
 module _ (m : Map) (p : ℕ) (w : MapWithin m) where
@@ -83,12 +83,12 @@ held_with s f (play p) n h e k =
 
 data HeldFile (s : List ℕ) : Result → Type 0 where
   whole : {f : File} → Held s f → HeldFile s (accepted f)
-  part : {n at : ℕ} {f : File} → at ≤ length s → Held s f → HeldFile s (refused_at n at f)
+  part : {n : Rule} {at : ℕ} {f : File} → at ≤ length s → Held s f → HeldFile s (refused_at n at f)
 
 held_ended : (s : List ℕ) (f : File) → Held s f → HeldFile s (ended f)
 held_ended s f k = go (eqb f.last 0)
   where
-    go : (b : Bool) → HeldFile s (pick b (refused_at 3 0 f) (accepted f))
+    go : (b : Bool) → HeldFile s (pick b (refused_at MARK 0 f) (accepted f))
     go true = part {at = 0} (omega arith) k
     go false = whole k
 
@@ -116,7 +116,7 @@ held_file s = held_from (suc (length s)) s nothing_read (record { inside = omega
 -- ---- so a refusal's offset lies within the file, and the scores are as many as the plays
 data HeldScores (s : List ℕ) (count : ℕ) : Outcome (List PlayScore) → Type 0 where
   some : {ss : List PlayScore} → length ss ≡ count → HeldScores s count (values ss)
-  stop : {n at : ℕ} → at ≤ length s → HeldScores s count (refusal n at)
+  stop : {n : Rule} {at : ℕ} → at ≤ length s → HeldScores s count (refusal n at)
 
 held_scores : (s : List ℕ) (m : Map) (ps : List (ℕ × Play)) → Each (λ (p : ℕ × Play). p.0 ≤ length s) ps → HeldScores s (length ps) (play_scores m ps)
 unfolding play_scores
@@ -129,7 +129,7 @@ held_scores s m (p ∷ ps) (one h w) = go (play_score_on m p.1) (play_scores m p
     go (good t) (refusal n at) (stop le) = stop le
     go (good t) (values ts) (some e) = some (ap suc e)
 
-refusal_inside : (s : List ℕ) (n at : ℕ) → scores_of (file_of s) ≡ refusal n at → at ≤ length s
+refusal_inside : (s : List ℕ) (n : Rule) (at : ℕ) → scores_of (file_of s) ≡ refusal n at → at ≤ length s
 refusal_inside s n at e = go (file_of s) (held_file s) e
   where
     scores : (x : Outcome (List PlayScore)) (c : ℕ) (y : List PlayScore → Outcome Scores) → HeldScores s c x → then x y ≡ refusal n at
@@ -172,9 +172,8 @@ text_short s h = go (scores_of (file_of s)) refl
   where
     go : (x : Outcome Scores) → scores_of (file_of s) ≡ x → length (text_of x) < 262144
     go (refusal n at) e =
-        let rule = refusal_rule s n at e in
         let inside = refusal_inside s n at e in
-        let line = length-refusal n at (omega (arith, rule.1)) (omega (arith, inside, h)) in
+        let line = length-refused_line (refusal_at n at) (omega (arith, inside, h)) in
         omega (arith, line)
     go (values sc) e =
         let few = few_plays s sc e in
@@ -186,9 +185,9 @@ pub listing_short : (s : List ℕ) → length (input_text s) < 262144
 unfolding input_text
 listing_short s = go (ltb 65536 (length s)) refl
   where
-    go : (b : Bool) → ltb 65536 (length s) ≡ b → length (pick b (refused_line 1 0) (file_text s)) < 262144
-    go true e = let line = length-refusal 1 0 (omega arith) (omega arith) in omega (arith, line)
+    go : (b : Bool) → ltb 65536 (length s) ≡ b → length (pick b (refused_line (refusal_at INPUT 0)) (file_text s)) < 262144
+    go true e = let line = length-refused_line (refusal_at INPUT 0) (omega arith) in omega (arith, line)
     go false e = text_short s (ltb-false 65536 (length s) e)
 
-pub listing_told : (s : List ℕ) → listed_of (input_text s) 262144 ≡ listed.Text (length (input_text s))
+pub listing_told : (s : List ℕ) → listed_of (input_text s) 262144 ≡ Some (length (input_text s))
 listing_told s = simp (lt-ltb (length (input_text s)) 262144 (listing_short s))

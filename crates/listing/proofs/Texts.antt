@@ -1,4 +1,6 @@
 -- From what the check of a file's plays answered to the text of the file.
+use Rattle.rules.specs.declared.refusal.Refusal.{Refusal}
+use Rattle.rules.specs.Refusals.{good, refused}
 use mathlib.Core.Path.{◌≡◌, refl, sym, ap, ◌∙◌}
 use mathlib.Core.List.{List, ◌++◌}
 use Prim.Native.Nat.{ℕ, ◌+◌, ◌≤◌, min}
@@ -15,25 +17,23 @@ use Rattle.simulator.specs.Attributes.{score_attributes_at}
 use Rattle.simulator.specs.declared.attributes.ScoreAttributes.{ScoreAttributes}
 use Rattle.map_reader.specs.declared.map.Map.{Map}
 use Rattle.scoring.specs.Scores.{Outcome, refusal, values, Scores, scores_of, map_score_of}
-use Rattle.scoring.specs.View.{PlaysOf, good}
-use Rattle.scoring.specs.declared.plays.Plays.TheVariants as answer
-use Rattle.scoring.specs.declared.score.MapScore.TheVariants as map_score
+use Rattle.scoring.specs.View.{PlaysOf, are}
 use Rattle.scoring.proofs.Answers.{plays_refused, map_scored}
-use Rattle.listing.specs.Listing.{GoodFile, plays_text, text_of, file_text, listed_at, listed_of}
+use Rattle.listing.specs.Listing.{GoodFile, plays_text, text_of, file_text, if_fits, listed_of}
 use Rattle.rules.proofs.Laws.{never}
 
-map_text : (x : Outcome Scores) (a : ScoreAttributes) → map_score.Map a ≡ map_score_of x → map_line a ++ plays_text x ≡ text_of x
+map_text : (x : Outcome Scores) (a : ScoreAttributes) → good a ≡ map_score_of x → map_line a ++ plays_text x ≡ text_of x
 map_text (refusal n at) a e = never (cc)
 map_text (values s) a e =
     let is : a ≡ score_attributes_at s.map (length s.map.objects) = cc in ap (λ (b : ScoreAttributes). map_line b ++ plays_text (values s)) is
 
 -- all objects are passed
 module _ (s : List ℕ) where
-  pub text_refused : (n at : ℕ) → PlaysOf s 18446744073709551615 (answer.Refused n at) → refused_line n at ≡ file_text s
+  pub text_refused : (r : Refusal) → PlaysOf s 18446744073709551615 (refused r) → refused_line r ≡ file_text s
   unfolding file_text
-  text_refused n at k = sym (ap text_of (plays_refused k))
+  text_refused r k = sym (ap text_of (plays_refused k))
 
-  module _ (m : Map) (a : ScoreAttributes) (k : PlaysOf s 18446744073709551615 (answer.Good m a)) where
+  module _ (m : Map) (a : ScoreAttributes) (k : PlaysOf s 18446744073709551615 (good (m, a))) where
     pub text_good : map_line a ++ plays_text (scores_of (file_of s)) ≡ file_text s
     unfolding file_text
     text_good = map_text (scores_of (file_of s)) a (map_scored m a k)
@@ -41,8 +41,8 @@ module _ (s : List ℕ) where
     pub file_good : GoodFile s m
     file_good = go k
       where
-        go : PlaysOf s 18446744073709551615 (answer.Good m a) → GoodFile s m
-        go (good map scores e same attributes) = record { p = 18446744073709551615; map = map; scores = scores; good = e }
+        go : PlaysOf s 18446744073709551615 (good (m, a)) → GoodFile s m
+        go (are map scores e same attributes) = record { p = 18446744073709551615; map = map; scores = scores; good = e }
 
 -- the place behind a text is within the space
 pub put_inside : (l : List ℕ) (at : ℕ) (t : List ℕ) {s : List ℕ} {p : ℕ} → Puts l at t s p → p ≤ length s
@@ -50,16 +50,16 @@ unfolding behind
 put_inside l at t puts = let e = puts.0 in let size = ap length puts.1 ∙ length_put l at t in omega (arith, e, size)
 
 -- a text that ends within the space ends at its length
-pub listed_is : (l t : List ℕ) → listed_at (behind l 0 t) (length l) ≡ listed_of t (length l)
+pub listed_is : (l t : List ℕ) → if_fits (behind l 0 t) (length l) ≡ listed_of t (length l)
 unfolding behind
 listed_is l t = go (ltb (length t) (length l)) refl
   where
-    go : (b : Bool) → ltb (length t) (length l) ≡ b → listed_at (min (length l) (0 + length t)) (length l) ≡ listed_of t (length l)
+    go : (b : Bool) → ltb (length t) (length l) ≡ b → if_fits (min (length l) (0 + length t)) (length l) ≡ listed_of t (length l)
     go true e =
         let h = ltb-true (length t) (length l) e in
         let m : min (length l) (0 + length t) ≡ length t = omega (arith, h) in
-        ap (λ (n : ℕ). listed_at n (length l)) m
+        ap (λ (n : ℕ). if_fits n (length l)) m
     go false e =
         let h = ltb-false (length t) (length l) e in
         let m : min (length l) (0 + length t) ≡ length l = omega (arith, h) in
-        ap (λ (n : ℕ). listed_at n (length l)) m ∙ simp (le-ltb (length l) (length l) (omega arith), e)
+        ap (λ (n : ℕ). if_fits n (length l)) m ∙ simp (le-ltb (length l) (length l) (omega arith), e)

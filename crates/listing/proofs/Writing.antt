@@ -1,4 +1,6 @@
 -- What the loop that writes the plays' lines keeps: the space has the lines of the plays read so far behind what it had before. Assumes nothing.
+use Rattle.rules.specs.declared.refusal.Rule.{Rule}
+use Rattle.rules.specs.Refusals.{good, refused, PLAY_EXCEEDS}
 use mathlib.Core.Path.{◌≡◌, refl, sym, ap, ◌∙◌, subst}
 use mathlib.Core.Bool.{Bool, true, false}
 use mathlib.Core.List.{List, [], ◌∷◌, ◌++◌, append-nil, append_assoc}
@@ -7,10 +9,10 @@ use native.Mathlib.Omega.{arith}
 use native.Mathlib.Nat.{add-zero}
 use lib.ListN.{length, drop, get_or}
 use Rattle.text.specs.Space.{behind}
-use Rattle.text.proofs.Space.{Written, Puts, next, length_put, put_nothing}
+use Rattle.text.proofs.Space.{Written, Puts, next, put_nothing}
 use Rattle.lines.specs.Lines.{play_line}
 use Rattle.map_file.specs.File.{file_of}
-use Rattle.map_file.proofs.Reading.{length_snoc}
+use Rattle.map_file.proofs.Reading.{chain_inside, length_snoc}
 use Rattle.map_reader.specs.declared.map.Map.{Map}
 use Rattle.map_reader.specs.declared.objects.Objects.{Objects}
 use Rattle.marks.specs.Marks.{MarksOf, mark_before, attributes_from}
@@ -18,15 +20,13 @@ use Rattle.marks.specs.declared.Marks.{Marks}
 use Rattle.marks.proofs.Marked.{marked_difficulty}
 use Rattle.play_state.specs.declared.Play.{Play}
 use Rattle.play_reader.specs.Plays.{play_in}
-use Rattle.play_reader.specs.declared.PlayRead.TheVariants as read
 use Rattle.simulator.specs.Attributes.{score_attributes_at}
 use Rattle.simulator.specs.declared.attributes.ScoreAttributes.{ScoreAttributes}
 use Rattle.estimates.specs.Effective.{estimates_of}
 use Rattle.estimates.specs.declared.calculator.Estimates.{Estimates}
-use Rattle.play_score.specs.PlayRules.{exceeds, scored_of}
+use Rattle.play_score.specs.PlayRules.{exceeds}
 use Rattle.play_score.proofs.Exceeding.{score_of, exceeds_refused, exceeds_not}
 use Rattle.play_score.specs.declared.PlayScore.{PlayScore}
-use Rattle.play_score.specs.declared.Scored.TheVariants as scored
 use Rattle.scoring.specs.Scores.{refusal, play_score_on, scores_of}
 use Rattle.scoring.specs.View.{wanted_after, Playing}
 use Rattle.scoring.specs.declared.plays.Wanted.{Wanted}
@@ -60,7 +60,6 @@ pub record Writing (s : List ℕ) (m : Map) (space₀ : List ℕ) (from at index
   pub wanted : Wanted
   pub playing : Playing s m at wanted 0
   pub count : index ≡ length playing.scores
-  pub few : index ≤ at
   pub written : Written space₀ from (play_lines 0 playing.scores) space to
 
 pub writing_start : {s : List ℕ} {m : Map} (k : GoodFile s m) (space : List ℕ) (from : ℕ) → from ≤ length space → Writing s m space from m.end 0 space from
@@ -70,12 +69,15 @@ writing_start k space from h =
       wanted = wanted.Ahead 0;
       playing = playing_start k.map 0;
       count = ap length none;
-      few = omega arith;
       written = subst (λ (ss : List PlayScore). Written space from (play_lines 0 ss) space from) none (none_written space from h);
     }
 
+-- its map ends within it
+pub end_inside : {s : List ℕ} {m : Map} → GoodFile s m → m.end ≤ length s
+end_inside {s = s} k = let e = k.map.end in let inside = chain_inside s k.map.file k.map.chain in omega (arith, e, inside)
+
 -- a good file is not refused
-not_refused : {A : Type 0} {s : List ℕ} {m : Map} (k : GoodFile s m) (n at : ℕ) → scores_of (file_of s) ≡ refusal n at → A
+not_refused : {A : Type 0} {s : List ℕ} {m : Map} (k : GoodFile s m) (n : Rule) (at : ℕ) → scores_of (file_of s) ≡ refusal n at → A
 not_refused k n at e = let same = sym k.good ∙ e in never (cc)
 
 module _ {s : List ℕ} {m : Map} {space₀ : List ℕ} {from at index : ℕ} {space : List ℕ} {to : ℕ} (k : Writing s m space₀ from at index space to) where
@@ -89,25 +91,23 @@ module _ {s : List ℕ} {m : Map} {space₀ : List ℕ} {from at index : ℕ} {s
   from_mark w q i d e a h r z = z ∙ ap (estimates_of q) (marked_difficulty k.playing.to.map q w i d e a h)
 
   module _ (h : at < length s) where
-    pub writing_cut : {A : Type 0} → GoodFile s m → (n : ℕ) → read.Refused n ≡ play_in (drop at s) → A
-    writing_cut good n e = not_refused good n at (playing_cut k.playing h n e)
+    pub writing_cut : {A : Type 0} → GoodFile s m → (n : Rule) → refused n ≡ play_in (drop at s) → A
+    writing_cut ok n e = not_refused ok n at (playing_cut k.playing h n e)
 
-    module _ (q : Play) (e : read.Is q ≡ play_in (drop at s)) where
-      writing_refused : {A : Type 0} → GoodFile s m → (n : ℕ) → scored.Refused n ≡ scored_of (play_score_on (map_of k.playing) q) → A
-      writing_refused good n r = not_refused good n at (playing_refused k.playing h q e n r)
+    module _ (q : Play) (e : good q ≡ play_in (drop at s)) where
+      writing_refused : {A : Type 0} → GoodFile s m → (n : Rule) → refused n ≡ (play_score_on (map_of k.playing) q) → A
+      writing_refused ok n r = not_refused ok n at (playing_refused k.playing h q e n r)
 
       -- one more line
-      writing_more : (y : PlayScore) → scored.Score y ≡ scored_of (play_score_on (map_of k.playing) q) → (space' : List ℕ) (to' : ℕ)
+      writing_more : (y : PlayScore) → good y ≡ (play_score_on (map_of k.playing) q) → (space' : List ℕ) (to' : ℕ)
           → Puts space to (play_line index y.estimates) space' to' → Writing s m space₀ from (at + 44) (index + 1) space' to'
       writing_more y r space' to' puts =
-          let few = k.few in
           let v = wanted_after k.wanted y in
           let more = sym (more_scores k.playing h q e y r v refl) in
           record {
             wanted = v;
             playing = playing_more k.playing h q e y r v refl;
             count = ap (λ (n : ℕ). n + 1) k.count ∙ sym (length_snoc k.playing.scores y) ∙ ap length more;
-            few = omega (arith, few);
             written =
                 subst (λ (x : List ℕ). Written space₀ from x space' to') (one_more k.playing.scores y k.count ∙ ap (play_lines 0) more)
                 (next k.written (play_line index y.estimates) puts);
@@ -116,10 +116,10 @@ module _ {s : List ℕ} {m : Map} {space₀ : List ℕ} {from at index : ℕ} {s
       -- a good file's play is not refused, so that its estimates are those of its score
       pub writing_line : GoodFile s m → (r : Estimates) → r ≡ estimates_of q (at-passed q).difficulty → (space' : List ℕ) (to' : ℕ)
           → Puts space to (play_line index r) space' to' → Writing s m space₀ from (at + 44) (index + 1) space' to'
-      writing_line good r z space' to' puts = go (exceeds q (at-passed q)) refl
+      writing_line ok r z space' to' puts = go (exceeds q (at-passed q)) refl
         where
           go : (b : Bool) → exceeds q (at-passed q) ≡ b → Writing s m space₀ from (at + 44) (index + 1) space' to'
-          go true x = writing_refused good 9 (exceeds_refused q (at-passed q) x)
+          go true x = writing_refused ok PLAY_EXCEEDS (exceeds_refused q (at-passed q) x)
           go false x = writing_more (score_of q (at-passed q)) (exceeds_not q (at-passed q) x) space' to' (subst (λ (u : Estimates). Puts space to (play_line index u) space' to') z puts)
 
   -- at the end of the file all plays have their line
@@ -127,7 +127,3 @@ module _ {s : List ℕ} {m : Map} {space₀ : List ℕ} {from at index : ℕ} {s
   writing_done h =
       let w = subst (λ (x : List ℕ). Written space₀ from x space to) (sym (ap plays_text (playing_scores k.playing h))) k.written in
       (w.place, w.space)
-
-  -- the space keeps its length
-  pub writing_length : length space ≡ length space₀
-  writing_length = ap length k.written.space ∙ length_put space₀ from (play_lines 0 k.playing.scores)

@@ -1,16 +1,14 @@
 -- Document 01, "Runs to reproduce": the text of the listing program. Definitions only.
-use Rattle.std.specs.Prelude.{ℕ, suc, ◌≡◌, List, [], ◌∷◌, ◌++◌, ltb, length}
+use Rattle.std.specs.Prelude.{ℕ, suc, ◌≡◌, List, [], ◌∷◌, ◌++◌, ltb, length, Option, Some, None}
 use Rattle.rules.specs.Limits.{max_input}
 use Rattle.lines.specs.Lines.{map_line, play_line, refused_line}
-use Rattle.rules.specs.Refusals.{pick, INPUT}
+use Rattle.rules.specs.Refusals.{refusal_at, pick, INPUT}
 use Rattle.map_file.specs.File.{file_of}
 use Rattle.map_reader.specs.Map.{MapIs}
 use Rattle.map_reader.specs.declared.map.Map.{Map}
 use Rattle.simulator.specs.Attributes.{score_attributes_at}
 use Rattle.scoring.specs.Scores.{Outcome, refusal, values, Scores, scores_of}
 use Rattle.play_score.specs.declared.PlayScore.{PlayScore}
-use Rattle.listing.specs.declared.Listed.{Listed}
-use Rattle.listing.specs.declared.Listed.TheVariants as listed
 
 -- a line for each play, numbered from an index on
 unfoldable pub play_lines : ℕ → List PlayScore → List ℕ
@@ -19,7 +17,7 @@ play_lines i (s ∷ ss) = play_line i s.estimates ++ play_lines (suc i) ss
 
 -- "Map, of all objects"; "A refusal prints only `refused N at OFFSET`"
 abbrev pub text_of : Outcome Scores → List ℕ
-text_of (refusal n at) = refused_line n at
+text_of (refusal n at) = refused_line (refusal_at n at)
 text_of (values s) = map_line (score_attributes_at s.map (length s.map.objects)) ++ play_lines 0 s.plays
 
 -- the listing of a map file
@@ -28,15 +26,15 @@ file_text s = text_of (scores_of (file_of s))
 
 -- "1: the program's input is above 65,536 bytes (the library has no such limit)"
 unfoldable pub input_text : List ℕ → List ℕ
-input_text s = pick (ltb max_input (length s)) (refused_line INPUT 0) (file_text s)
+input_text s = pick (ltb max_input (length s)) (refused_line (refusal_at INPUT 0)) (file_text s)
 
 -- a text that leaves the space no byte does not fit
-abbrev pub listed_of : List ℕ → ℕ → Listed
-listed_of text room = pick (ltb (length text) room) (listed.Text (length text)) listed.NoRoom
+abbrev pub listed_of : List ℕ → ℕ → Option ℕ
+listed_of text room = pick (ltb (length text) room) (Some (length text)) None
 
 -- ---- what the code keeps
-abbrev pub listed_at : ℕ → ℕ → Listed
-listed_at at room = pick (ltb at room) (listed.Text at) listed.NoRoom
+abbrev pub if_fits : ℕ → ℕ → Option ℕ
+if_fits at room = pick (ltb at room) (Some at) None
 
 abbrev pub plays_text : Outcome Scores → List ℕ
 plays_text (refusal n at) = []

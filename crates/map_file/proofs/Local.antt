@@ -1,4 +1,5 @@
 -- A record is read from its own bytes: what follows them changes nothing. So the part of a file up to the end of a record is a file too.
+use Rattle.rules.specs.declared.refusal.Rule.{Rule}
 use mathlib.Core.Path.{◌≡◌, refl, sym, ap, ◌∙◌, subst}
 use mathlib.Core.Bool.{Bool, true, false, not}
 use mathlib.Core.List.{List, ◌++◌}
@@ -10,7 +11,7 @@ use lib.Seq.{take-append-le, drop-append-le}
 use borrow.Author.Tests.{le-ltb}
 use Rattle.numbers.specs.Words.{word_at}
 use Rattle.numbers.proofs.words.Laws.{word_at-within}
-use Rattle.rules.specs.Refusals.{Checked, good, refused, ◌>>=◌, ◌>>◌, refuse◌when◌, pick}
+use Rattle.rules.specs.Refusals.{Checked, good, refused, ◌>>=◌, ◌>>◌, refuse◌when◌, pick, CUT, COUNT, PLAY_FIELD, MARK, BONUS}
 use Rattle.play_state.specs.Play.{hitresults_of}
 use Rattle.records.specs.Records.{Content, FoundRecord, CI, SL, SP, header_of, break_of, circle_of, slider_of, spinner_of, play_of, object_of}
 use Rattle.map_file.specs.Order.{MH, BR, PL, rank_of, in_order, is_full, over_bonus, content_bonus, body_of, record_of}
@@ -64,27 +65,27 @@ module _ (p t : List ℕ) where
 -- ---- the sizes
 header_size_lem : (r : List ℕ) → All (λ f. f.1 ≡ 14) (header_of r)
 unfolding header_of
-header_size_lem r = all_when 2 _ _ (λ _. all_any _ _ (λ a. all_any _ _ (λ b. all_any _ _ (λ c. that refl))))
+header_size_lem r = all_when CUT _ _ (λ _. all_any _ _ (λ a. all_any _ _ (λ b. all_any _ _ (λ c. that refl))))
 
 break_size_lem : (r : List ℕ) → All (λ f. f.1 ≡ 18) (break_of r)
 unfolding break_of
-break_size_lem r = all_when 2 _ _ (λ _. all_any _ _ (λ a. all_any _ _ (λ b. that refl)))
+break_size_lem r = all_when CUT _ _ (λ _. all_any _ _ (λ a. all_any _ _ (λ b. that refl)))
 
 circle_size_lem : (r : List ℕ) → All (λ f. f.1 ≡ 10) (circle_of r)
 unfolding circle_of
-circle_size_lem r = all_when 2 _ _ (λ _. all_any _ _ (λ a. that refl))
+circle_size_lem r = all_when CUT _ _ (λ _. all_any _ _ (λ a. that refl))
 
 spinner_size_lem : (r : List ℕ) → All (λ f. f.1 ≡ 18) (spinner_of r)
 unfolding spinner_of
-spinner_size_lem r = all_when 2 _ _ (λ _. all_any _ _ (λ a. all_any _ _ (λ b. that refl)))
+spinner_size_lem r = all_when CUT _ _ (λ _. all_any _ _ (λ a. all_any _ _ (λ b. that refl)))
 
 slider_size_lem : (r : List ℕ) → All (λ f. f.1 ≡ 12 + word_at r 10 2) (slider_of r)
 unfolding slider_of
-slider_size_lem r = all_when 2 _ _ (λ _. all_any _ _ (λ a. all_when 6 _ _ (λ _. all_when 2 _ _ (λ _. all_any _ _ (λ is. that refl)))))
+slider_size_lem r = all_when CUT _ _ (λ _. all_any _ _ (λ a. all_when COUNT _ _ (λ _. all_when CUT _ _ (λ _. all_any _ _ (λ is. that refl)))))
 
 play_size_lem : (r : List ℕ) → All (λ f. f.1 ≡ 44) (play_of r)
 unfolding play_of
-play_size_lem r = all_when 2 _ _ (λ _. all_any _ _ (λ a. all_any _ _ (λ b. all_when 8 _ _ (λ _. all_any _ _ (λ c. that refl)))))
+play_size_lem r = all_when CUT _ _ (λ _. all_any _ _ (λ a. all_any _ _ (λ b. all_when PLAY_FIELD _ _ (λ _. all_any _ _ (λ c. that refl)))))
 
 -- ---- what is found in the whole is found in the part that holds it
 abbrev Found_in : List ℕ → List ℕ → (List ℕ → FoundRecord) → Content × ℕ → Type 0
@@ -124,7 +125,7 @@ module _ (p t : List ℕ) (f : Content × ℕ) where
   unfolding body_of
   body_in m e h = pick_in (eqb m MH) (λ k. header_in k h) (pick_in (eqb m BR) (λ k. break_in k h) (pick_in (eqb m PL) (λ k. play_in_lem k h) (λ k. object_in_lem m k h))) e
 
-when_out : {A : Type 0} (n : ℕ) (b : Bool) {y : Checked A} {a : A} → ((refuse n when b) >> y) ≡ good a → (b ≡ false) × (y ≡ good a)
+when_out : {A : Type 0} (n : Rule) (b : Bool) {y : Checked A} {a : A} → ((refuse n when b) >> y) ≡ good a → (b ≡ false) × (y ≡ good a)
 unfolding ◌>>◌ refuse◌when◌
 when_out n true e = never (cc)
 when_out n false e = (refl, e)
@@ -149,11 +150,11 @@ record Passed (r : List ℕ) (c : Counts) (f : Content × ℕ) : Type 0 where
 passed : (r : List ℕ) (c : Counts) (f : Content × ℕ) → record_of r c ≡ good f → Passed r c f
 unfolding record_of
 passed r c f e =
-    let a = when_out 2 (ltb (length r) 2) e in
-    let b = when_out 3 (not (in_order c.last (rank_of (word_at r 0 2)))) a.1 in
-    let d = when_out 6 (is_full c (rank_of (word_at r 0 2))) b.1 in
+    let a = when_out CUT (ltb (length r) 2) e in
+    let b = when_out MARK (not (in_order c.last (rank_of (word_at r 0 2)))) a.1 in
+    let d = when_out COUNT (is_full c (rank_of (word_at r 0 2))) b.1 in
     let k = bind_out (body_of r (word_at r 0 2)) _ d.1 in
-    let l = when_out 7 (over_bonus c (content_bonus k.value.0)) k.next in
+    let l = when_out BONUS (over_bonus c (content_bonus k.value.0)) k.next in
     let same : k.value ≡ f = good_is l.1 in
     record { two = a.0; order = b.0; room = d.0; body = k.is ∙ ap good same; low = subst (λ (g : Content × ℕ). over_bonus c (content_bonus g.0) ≡ false) same l.0 }
   where

@@ -1,4 +1,5 @@
 -- The files that the definition reads one after the other, record by record: reading on from each of them gives the whole file.
+use Rattle.rules.specs.declared.refusal.Rule.{Rule}
 use mathlib.Core.Path.{◌≡◌, refl, sym, ap, ◌∙◌, subst}
 use mathlib.Core.Bool.{Bool, true, false}
 use mathlib.Core.List.{List, [], ◌∷◌, ◌++◌}
@@ -9,7 +10,7 @@ use lib.Dec.{eqb}
 use lib.ListN.{length, take, drop, length-append, length-drop, take-append-drop}
 use lib.Seq.{drop-append-le, length-take-le}
 use borrow.Author.Tests.{lt-ltb, le-ltb, ne_eqb}
-use Rattle.rules.specs.Refusals.{good, refused, pick}
+use Rattle.rules.specs.Refusals.{good, refused, pick, MARK}
 use Rattle.records.specs.Objects.{Object, bonus, kind_bonus}
 use Rattle.records.specs.Records.{Content, header, break, object, play, FoundRecord}
 use Rattle.map_file.specs.Order.{record_of}
@@ -45,7 +46,7 @@ from_good : (k : ℕ) (s : List ℕ) (f : File) (r : Content × ℕ) → f.at < 
 unfolding file_from
 from_good k s f r h e = simp (lt-ltb _ _ h, e)
 
-from_refused : (k : ℕ) (s : List ℕ) (f : File) (n : ℕ) → f.at < length s → found_at s f ≡ refused n → file_from (suc k) s f ≡ refused_at n f.at f
+from_refused : (k : ℕ) (s : List ℕ) (f : File) (n : Rule) → f.at < length s → found_at s f ≡ refused n → file_from (suc k) s f ≡ refused_at n f.at f
 unfolding file_from
 from_refused k s f n h e = simp (lt-ltb _ _ h, e)
 
@@ -87,7 +88,7 @@ on_step s f r on h e = go on.fuel refl
           rest = sym (from_good fuel s f r h e) ∙ ap (λ (m : ℕ). file_from m s f) (sym p) ∙ on.rest;
         }
 
-pub on_stop : (s : List ℕ) (f : File) (n : ℕ) → On s f → f.at < length s → found_at s f ≡ refused n → file_of s ≡ refused_at n f.at f
+pub on_stop : (s : List ℕ) (f : File) (n : Rule) → On s f → f.at < length s → found_at s f ≡ refused n → file_of s ≡ refused_at n f.at f
 on_stop s f n on h e = go on.fuel refl
   where
     go : (fuel : ℕ) → on.fuel ≡ fuel → file_of s ≡ refused_at n f.at f
@@ -105,7 +106,7 @@ on_end s f on h = go on.fuel refl
 pub ended_is : (f g : File) → ended f ≡ accepted g → f ≡ g
 ended_is f g e = go (eqb f.last 0) e
   where
-    go : (b : Bool) → pick b (refused_at 3 0 f) (accepted f) ≡ accepted g → f ≡ g
+    go : (b : Bool) → pick b (refused_at MARK 0 f) (accepted f) ≡ accepted g → f ≡ g
     go true e = never (cc)
     go false e = cc
 

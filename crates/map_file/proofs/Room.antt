@@ -1,4 +1,5 @@
 -- A record that is read leaves the counts within their limits: the checks 6 and 7 ask just that.
+use Rattle.rules.specs.Refusals.{CUT, MARK, COUNT, BONUS, PLAY_FIELD}
 use mathlib.Core.Path.{◌≡◌, sym, ap}
 use mathlib.Core.Bool.{true, false}
 use mathlib.Core.List.{List}
@@ -30,16 +31,16 @@ Placed m f = place_of f.0 ≡ rank_of m
 object_placed : (r : List ℕ) (m : ℕ) → eqb m MH ≡ false → eqb m BR ≡ false → All (Placed m) (object_of r m)
 unfolding object_of circle_of slider_of spinner_of
 object_placed r m n₁ n₂ =
-    all_pick (eqb m CI) (λ e. all_when 2 _ _ (λ _. all_any _ _ (λ a. that (simp (n₁, n₂, e))))) (λ n₃.
-    all_pick (eqb m SL) (λ e. all_when 2 _ _ (λ _. all_any _ _ (λ a. all_when 6 _ _ (λ _. all_when 2 _ _ (λ _. all_any _ _ (λ is. that (simp (n₁, n₂, n₃, e)))))))) (λ n₄.
-    all_pick (eqb m SP) (λ e. all_when 2 _ _ (λ _. all_any _ _ (λ a. all_any _ _ (λ b. that (simp (n₁, n₂, n₃, n₄, e)))))) (λ _. none)))
+    all_pick (eqb m CI) (λ e. all_when CUT _ _ (λ _. all_any _ _ (λ a. that (simp (n₁, n₂, e))))) (λ n₃.
+    all_pick (eqb m SL) (λ e. all_when CUT _ _ (λ _. all_any _ _ (λ a. all_when COUNT _ _ (λ _. all_when CUT _ _ (λ _. all_any _ _ (λ is. that (simp (n₁, n₂, n₃, e)))))))) (λ n₄.
+    all_pick (eqb m SP) (λ e. all_when CUT _ _ (λ _. all_any _ _ (λ a. all_any _ _ (λ b. that (simp (n₁, n₂, n₃, n₄, e)))))) (λ _. none)))
 
 pub body_placed : (r : List ℕ) (m : ℕ) → All (Placed m) (body_of r m)
 unfolding body_of header_of break_of play_of
 body_placed r m =
-    all_pick (eqb m MH) (λ e. all_when 2 _ _ (λ _. all_any _ _ (λ hp. all_any _ _ (λ od. all_any _ _ (λ cs. that (simp e)))))) (λ n₁.
-    all_pick (eqb m BR) (λ e. all_when 2 _ _ (λ _. all_any _ _ (λ a. all_any _ _ (λ b. that (simp (n₁, e)))))) (λ n₂.
-    all_pick (eqb m PL) (λ e. all_when 2 _ _ (λ _. all_any _ _ (λ o. all_any _ _ (λ s. all_when 8 _ _ (λ _. all_any _ _ (λ x. that (play_place m e))))))) (λ _. object_placed r m n₁ n₂)))
+    all_pick (eqb m MH) (λ e. all_when CUT _ _ (λ _. all_any _ _ (λ hp. all_any _ _ (λ od. all_any _ _ (λ cs. that (simp e)))))) (λ n₁.
+    all_pick (eqb m BR) (λ e. all_when CUT _ _ (λ _. all_any _ _ (λ a. all_any _ _ (λ b. that (simp (n₁, e)))))) (λ n₂.
+    all_pick (eqb m PL) (λ e. all_when CUT _ _ (λ _. all_any _ _ (λ o. all_any _ _ (λ s. all_when PLAY_FIELD _ _ (λ _. all_any _ _ (λ x. that (play_place m e))))))) (λ _. object_placed r m n₁ n₂)))
   where
     play_place : (m : ℕ) → eqb m PL ≡ true → 4 ≡ rank_of m
     play_place m e = ap rank_of (sym (eqb-true m PL e))
@@ -53,8 +54,8 @@ fits c m (play s) p q h = tt
 pub record_fits : (r : List ℕ) (c : Counts) → All (λ f. Fits c (content_view f.0)) (record_of r c)
 unfolding record_of
 record_fits r c =
-    all_when 2 _ _ (λ _. all_when 3 _ _ (λ _. all_when 6 _ _ (λ few.
-    all_bind (body_of r (word_at r 0 2)) _ (body_placed r (word_at r 0 2)) (λ f h. all_when 7 _ _ (λ low. that (fits c (word_at r 0 2) f.0 h few low))))))
+    all_when CUT _ _ (λ _. all_when MARK _ _ (λ _. all_when COUNT _ _ (λ few.
+    all_bind (body_of r (word_at r 0 2)) _ (body_placed r (word_at r 0 2)) (λ f h. all_when BONUS _ _ (λ low. that (fits c (word_at r 0 2) f.0 h few low))))))
 
 ordered : (last m : ℕ) (x : Content) → place_of x ≡ rank_of m → in_order last (rank_of m) ≡ true → last ≤ place_of x
 ordered last m (header s) p q = let e = eqb-true last 0 (rw (sym p) at q) in omega (arith, e)
@@ -65,8 +66,8 @@ ordered last m (play s) p q = leb-true last 4 (and_right (ltb 0 last) (leb last 
 pub record_ordered : (r : List ℕ) (c : Counts) → All (λ f. c.last ≤ place_of f.0) (record_of r c)
 unfolding record_of
 record_ordered r c =
-    all_when 2 _ _ (λ _. all_when 3 _ _ (λ order. all_when 6 _ _ (λ _.
-    all_bind (body_of r (word_at r 0 2)) _ (body_placed r (word_at r 0 2)) (λ f h. all_when 7 _ _ (λ _. that (ordered c.last (word_at r 0 2) f.0 h (not-false _ order)))))))
+    all_when CUT _ _ (λ _. all_when MARK _ _ (λ order. all_when COUNT _ _ (λ _.
+    all_bind (body_of r (word_at r 0 2)) _ (body_placed r (word_at r 0 2)) (λ f h. all_when BONUS _ _ (λ _. that (ordered c.last (word_at r 0 2) f.0 h (not-false _ order)))))))
 
 -- a record that is no header comes after one
 abbrev pub Begun : Counts → Content → Type 0
@@ -84,5 +85,5 @@ begun c m (play s) p q = ltb-true 0 c.last (and_left _ _ (rw (sym p) at q))
 pub record_begun : (r : List ℕ) (c : Counts) → All (λ f. Begun c f.0) (record_of r c)
 unfolding record_of
 record_begun r c =
-    all_when 2 _ _ (λ _. all_when 3 _ _ (λ order. all_when 6 _ _ (λ _.
-    all_bind (body_of r (word_at r 0 2)) _ (body_placed r (word_at r 0 2)) (λ f h. all_when 7 _ _ (λ _. that (begun c (word_at r 0 2) f.0 h (not-false _ order)))))))
+    all_when CUT _ _ (λ _. all_when MARK _ _ (λ order. all_when COUNT _ _ (λ _.
+    all_bind (body_of r (word_at r 0 2)) _ (body_placed r (word_at r 0 2)) (λ f h. all_when BONUS _ _ (λ _. that (begun c (word_at r 0 2) f.0 h (not-false _ order)))))))

@@ -1,4 +1,5 @@
 -- A record that is read has at least its mark, and ends within the input; all but sliders have one size for each kind.
+use Rattle.rules.specs.Refusals.{CUT, COUNT, MARK, PLAY_FIELD, BONUS}
 use mathlib.Core.Path.{◌≡◌, refl}
 use mathlib.Core.Bool.{false}
 use mathlib.Core.List.{List}
@@ -29,27 +30,27 @@ there r n k h e = (h, ltb-false (length r) n e, k)
 
 header_sized : (r : List ℕ) → All (Sized r) (header_of r)
 unfolding header_of
-header_sized r = all_when 2 _ _ (λ e. all_any _ _ (λ hp. all_any _ _ (λ od. all_any _ _ (λ cs. that (there r 14 refl (omega arith) e)))))
+header_sized r = all_when CUT _ _ (λ e. all_any _ _ (λ hp. all_any _ _ (λ od. all_any _ _ (λ cs. that (there r 14 refl (omega arith) e)))))
 
 break_sized : (r : List ℕ) → All (Sized r) (break_of r)
 unfolding break_of
-break_sized r = all_when 2 _ _ (λ e. all_any _ _ (λ a. all_any _ _ (λ b. that (there r 18 refl (omega arith) e))))
+break_sized r = all_when CUT _ _ (λ e. all_any _ _ (λ a. all_any _ _ (λ b. that (there r 18 refl (omega arith) e))))
 
 circle_sized : (r : List ℕ) → All (Sized r) (circle_of r)
 unfolding circle_of
-circle_sized r = all_when 2 _ _ (λ e. all_any _ _ (λ a. that (there r 10 tt (omega arith) e)))
+circle_sized r = all_when CUT _ _ (λ e. all_any _ _ (λ a. that (there r 10 tt (omega arith) e)))
 
 slider_sized : (r : List ℕ) → All (Sized r) (slider_of r)
 unfolding slider_of
-slider_sized r = all_when 2 _ _ (λ _. all_any _ _ (λ a. all_when 6 _ _ (λ _. all_when 2 _ _ (λ e. all_any _ _ (λ is. that (there r (12 + word_at r 10 2) tt (omega arith) e))))))
+slider_sized r = all_when CUT _ _ (λ _. all_any _ _ (λ a. all_when COUNT _ _ (λ _. all_when CUT _ _ (λ e. all_any _ _ (λ is. that (there r (12 + word_at r 10 2) tt (omega arith) e))))))
 
 spinner_sized : (r : List ℕ) → All (Sized r) (spinner_of r)
 unfolding spinner_of
-spinner_sized r = all_when 2 _ _ (λ e. all_any _ _ (λ a. all_any _ _ (λ b. that (there r 18 tt (omega arith) e))))
+spinner_sized r = all_when CUT _ _ (λ e. all_any _ _ (λ a. all_any _ _ (λ b. that (there r 18 tt (omega arith) e))))
 
 play_sized : (r : List ℕ) → All (Sized r) (play_of r)
 unfolding play_of
-play_sized r = all_when 2 _ _ (λ e. all_any _ _ (λ o. all_any _ _ (λ s. all_when 8 _ _ (λ _. all_any _ _ (λ x. that (there r 44 refl (omega arith) e))))))
+play_sized r = all_when CUT _ _ (λ e. all_any _ _ (λ o. all_any _ _ (λ s. all_when PLAY_FIELD _ _ (λ _. all_any _ _ (λ x. that (there r 44 refl (omega arith) e))))))
 
 pub object_sized : (r : List ℕ) (mark : ℕ) → All (Sized r) (object_of r mark)
 unfolding object_of
@@ -62,4 +63,4 @@ body_sized r m = all_pick (eqb m MH) (λ _. header_sized r) (λ _. all_pick (eqb
 pub record_sized : (r : List ℕ) (c : Counts) → All (Sized r) (record_of r c)
 unfolding record_of
 record_sized r c =
-    all_when 2 _ _ (λ _. all_when 3 _ _ (λ _. all_when 6 _ _ (λ _. all_bind (body_of r (word_at r 0 2)) _ (body_sized r (word_at r 0 2)) (λ f h. all_when 7 _ _ (λ _. that h)))))
+    all_when CUT _ _ (λ _. all_when MARK _ _ (λ _. all_when COUNT _ _ (λ _. all_bind (body_of r (word_at r 0 2)) _ (body_sized r (word_at r 0 2)) (λ f h. all_when BONUS _ _ (λ _. that h)))))

@@ -6,7 +6,7 @@ use Rattle.std.specs.Float.Ieee.{of_bits, of_int, round, to_unsigned, mul, div, 
 use Rattle.numbers.specs.Words.{word_at, bytes_of}
 use Rattle.spinner.specs.HalfSpins.{total_half_spins, required_half_spins}
 use Rattle.spinner.specs.Bonus.{half_spin_points, legacy_of}
-use Rattle.rules.specs.Refusals.{refused, good, ◌>>=◌, ◌>>◌, refuse◌when◌}
+use Rattle.rules.specs.Refusals.{refused, good, number_of, ◌>>=◌, ◌>>◌, refuse◌when◌}
 use Rattle.records.specs.Objects.{bonus}
 use Rattle.play_state.specs.Play.{flags_bad, hitresults_of}
 use Rattle.records.specs.Records.{FoundRecord, header_of, break_of, circle_of, nested_of, slider_of, spinner_of, play_of, object_of}
@@ -57,7 +57,7 @@ not_a_number32 = 0x7fc0_0000
 -- a refusal's number and offset, and 0 at 0 for an accepted file
 abbrev pub refusal : Result → ℕ × ℕ
 refusal (accepted f) = (0, 0)
-refusal (refused_at n at f) = (n, at)
+refusal (refused_at n at f) = (number_of n, at)
 
 abbrev empty : List ℕ
 empty = header 0 0 0
@@ -91,7 +91,7 @@ objects n bonus = record { last = object_rank; breaks = 128; objects = n; bonus 
 
 -- the number of a record, and 0 for one that passes
 abbrev number : FoundRecord → ℕ
-number (refused n) = n
+number (refused n) = number_of n
 number (good f) = 0
 
 abbrev Row : Type 0

@@ -2,7 +2,8 @@
 use Rattle.std.specs.Prelude.{ℕ, zero, suc, ◌+◌, List, [], ◌∷◌, ◌++◌, eqb, ltb, length, drop}
 use Rattle.std.specs.Float.{binary32}
 use Rattle.std.specs.Float.Ieee.{of_bits}
-use Rattle.rules.specs.Refusals.{Checked, good, refused, pick, MARK}
+use Rattle.rules.specs.Refusals.{Checked, good, refused, pick, INPUT, MARK}
+use Rattle.rules.specs.declared.refusal.Rule.{Rule}
 use Rattle.records.specs.Objects.{Object, bonus}
 use Rattle.records.specs.Records.{Content, header, break, object, play}
 use Rattle.map_file.specs.Order.{record_of, no_rank, header_rank, break_rank, object_rank, play_rank}
@@ -36,10 +37,10 @@ with_record f r = elim r.0 [
   | play p ↦ record { at = f.at + r.1; last = play_rank; map = f.map; plays = f.plays ++ ((f.at, p) ∷ []) }
 ]
 
--- a whole file; or a refusal's number and offset, and what was read before it
+-- a whole file; or the rule that it breaks and the offset, and what was read before it
 pub data Result : Type 0 where
   accepted : File → Result
-  refused_at : ℕ → ℕ → File → Result
+  refused_at : Rule → ℕ → File → Result
 
 -- at the end of the input: the offset "is 0 .. for a missing header"
 abbrev pub ended : File → Result
@@ -53,7 +54,7 @@ follow f (good r) go = go r
 -- the records from an offset on, to the end of the input or the first refusal. `fuel` bounds how many there are: a record has bytes, so that
 -- the first line is never reached from file_of
 unfoldable pub file_from : ℕ → List ℕ → File → Result
-file_from zero s f = refused_at 0 0 f
+file_from zero s f = refused_at INPUT 0 f
 file_from (suc fuel) s f =
     pick (ltb f.at (length s)) (follow f (record_of (drop f.at s) (counts_of f)) (λ r. file_from fuel s (with_record f r))) (ended f)
 

@@ -9,7 +9,7 @@ use records::beatmap::{BreakPeriod, Settings};
 use records::hit_object::{HitObject, HitObjectKind};
 use records::record::{Read, Record};
 use records::{hit_object, map_record, object_record, play_record};
-use rules::refusal;
+use rules::refusal::Rule;
 
 pub const MH: u64 = 0x484d;
 
@@ -49,25 +49,13 @@ pub struct Reader {
 pub fn rank_of(mark: u64) -> u8
     ensures { result ≡ rank_of mark }
 {
-    if mark == MH {
-        return HEADER_RANK;
+    match mark {
+        MH => HEADER_RANK,
+        BR => BREAK_RANK,
+        hit_object::CI | hit_object::SL | hit_object::SP => OBJECT_RANK,
+        PL => PLAY_RANK,
+        _ => NO_RANK,
     }
-    if mark == BR {
-        return BREAK_RANK;
-    }
-    if mark == hit_object::CI {
-        return OBJECT_RANK;
-    }
-    if mark == hit_object::SL {
-        return OBJECT_RANK;
-    }
-    if mark == hit_object::SP {
-        return OBJECT_RANK;
-    }
-    if mark == PL {
-        return PLAY_RANK;
-    }
-    NO_RANK
 }
 
 fn in_order(last: u8, rank: u8) -> bool
@@ -82,28 +70,23 @@ fn in_order(last: u8, rank: u8) -> bool
 fn is_full(c: Counts, rank: u8) -> bool
     ensures { result ≡ is_full c rank }
 {
-    if rank == BREAK_RANK {
-        return BreakPeriod::MAX_COUNT <= c.breaks;
+    match rank {
+        BREAK_RANK => BreakPeriod::MAX_COUNT <= c.breaks,
+        OBJECT_RANK => HitObject::MAX_COUNT <= c.objects,
+        _ => false,
     }
-    if rank == OBJECT_RANK {
-        return HitObject::MAX_COUNT <= c.objects;
-    }
-    false
 }
 
+#[tactic(auto, unfolding(crate::specs::Order::body_of))]
 fn read_body(r: &[u8], mark: u64) -> Read
     ensures { result ≡ record_read (body_of r.now mark) }
 {
-    if mark == MH {
-        return map_record::read_header(r);
+    match mark {
+        MH => map_record::read_header(r),
+        BR => map_record::read_break(r),
+        PL => play_record::read_play(r),
+        _ => object_record::read_object(r, mark),
     }
-    if mark == BR {
-        return map_record::read_break(r);
-    }
-    if mark == PL {
-        return play_record::read_play(r);
-    }
-    object_record::read_object(r, mark)
 }
 
 // The legacy bonus points of a record: a spinner's.
@@ -111,51 +94,41 @@ fn bonus_of(item: Record) -> u64
     ensures { result ≡ bonus_in item }
 {
     match item {
-        Record::Object(o) => {
-            let kind = o.kind;
-            match kind {
-                HitObjectKind::Spinner(spinner) => spinner::bonus(spinner.duration).legacy.0,
-                HitObjectKind::Circle => 0,
-                HitObjectKind::Slider(_) => 0,
-            }
-        }
-        Record::Header(_) => 0,
-        Record::Break(_) => 0,
-        Record::Play(_) => 0,
+        Record::Object(
+            HitObject {
+                kind: HitObjectKind::Spinner(spinner),
+                ..
+            },
+        ) => spinner::bonus(spinner.duration).legacy.0,
+        _ => 0,
     }
 }
 
 fn is_over_bonus(c: Counts, bonus: u64) -> bool
     ensures { result ≡ over_bonus c bonus }
 {
-    if HitObject::MAX_BONUS < bonus {
-        return true;
-    }
-    HitObject::MAX_BONUS - bonus < c.bonus
+    HitObject::MAX_BONUS < c.bonus.saturating_add(bonus)
 }
 
 // The record that the rest of a file starts with, by all checks of one record in their order. Its bonus is worked out once, for the last of them.
+#[tactic(auto, using(rules::proofs::Steps::steps, crate::proofs::Bodies::bonus_kept), unfolding(crate::specs::Order::record_of))]
 pub fn read_record(r: &[u8], c: Counts) -> Read
     ensures { result ≡ record_read (record_of r.now c) }
 {
     if r.len() < 2 {
-        return Read::Refused(refusal::CUT);
+        return Err(Rule::Cut);
     }
     let mark = word_at(r, 0, 2);
     let rank = rank_of(mark);
     if !in_order(c.last, rank) {
-        return Read::Refused(refusal::MARK);
+        return Err(Rule::Mark);
     }
     if is_full(c, rank) {
-        return Read::Refused(refusal::COUNT);
+        return Err(Rule::Count);
     }
-    match read_body(r, mark) {
-        Read::Refused(number) => Read::Refused(number),
-        Read::Good(item, size) => {
-            if is_over_bonus(c, bonus_of(item)) {
-                return Read::Refused(refusal::BONUS);
-            }
-            Read::Good(item, size)
-        }
+    let (item, size) = read_body(r, mark)?;
+    if is_over_bonus(c, bonus_of(item)) {
+        return Err(Rule::Bonus);
     }
+    Ok((item, size))
 }

@@ -8,8 +8,7 @@ use borrow.Author.Tests.{le-ltb, ltb-true, ltb-false}
 use lib.Dec.{ltb}
 use lib.ListN.{length}
 use Rattle.rules.specs.Limits.{max_bonus, circle_size}
-use Rattle.rules.specs.Refusals.{pick}
-use Rattle.rules.proofs.Laws.{never}
+use Rattle.rules.specs.Refusals.{pick, good, refused, refusal_at, BONUS}
 use Rattle.records.specs.Objects.{Kind, circle, slider, spinner, kind_bonus}
 use Rattle.simulator.specs.Hits.{hits_of}
 use Rattle.simulator.specs.Walk.{State, walk}
@@ -19,7 +18,6 @@ use Rattle.map_reader.specs.Objects.{hit_as, stepped, bonus_of, stepped_by, next
 use Rattle.map_reader.specs.declared.objects.Objects.{Objects}
 use Rattle.map_reader.specs.declared.objects.Stepped.{Stepped}
 use Rattle.map_reader.specs.declared.objects.Stepped.TheVariants as step
-use Rattle.map_reader.specs.declared.objects.Ran.TheVariants as ran
 use Rattle.map_reader.proofs.Running.{next_short, next_long, Took, Stops, short, none, Answered, took, stop, over, answered, ran_next, ran_stop, ran_over}
 
 abbrev pub bare_score : State → State
@@ -64,16 +62,16 @@ module _ (s : List ℕ) (x : Objects) where
       go false q = sym (next_long false s (bare x) (ltb-false _ _ q) ∙ ap (stepped_by false (bare x)) e)
 
 -- ---- many
-pub ran_bare : (n : ℕ) (s : List ℕ) (x y : Objects) → ran.To y ≡ ran_of true n s x → ran.To (bare y) ≡ ran_of false n s (bare x)
+pub ran_bare : (n : ℕ) (s : List ℕ) (x y : Objects) → good y ≡ ran_of true n s x → good (bare y) ≡ ran_of false n s (bare x)
 unfolding ran_of
-ran_bare zero s x y e = let same : y ≡ x = cc in ap (λ (z : Objects). ran.To (bare z)) same
+ran_bare zero s x y e = let same : y ≡ x = cc in ap (λ (z : Objects). good (bare z)) same
 ran_bare (suc n) s x y e = go (λ z q. ran_bare n s z y q) (next_of true s x) refl (answered true s x)
   where
-    go : ((z : Objects) → ran.To y ≡ ran_of true n s z → ran.To (bare y) ≡ ran_of false n s (bare z)) → (a : Stepped) → next_of true s x ≡ a → Answered true s x a
-        → ran.To (bare y) ≡ ran_of false (suc n) s (bare x)
+    go : ((z : Objects) → good y ≡ ran_of true n s z → good (bare y) ≡ ran_of false n s (bare z)) → (a : Stepped) → next_of true s x ≡ a → Answered true s x a
+        → good (bare y) ≡ ran_of false (suc n) s (bare x)
     go more (step.Next z) q (took t) = more z (e ∙ ran_next true n s x z (sym q)) ∙ sym (ran_next false n s (bare x) (bare z) (bare_next s x z t))
     go more step.Stop q (stop h) =
-        let same : ran.To y ≡ ran.To x = e ∙ sym (ran_stop true (suc n) s x (sym q)) in
+        let same : good y ≡ good x = e ∙ sym (ran_stop true (suc n) s x (sym q)) in
         let z : y ≡ x = cc in
-        ap (λ (o : Objects). ran.To (bare o)) z ∙ ran_stop false (suc n) s (bare x) (bare_stop s x h)
-    go more step.OverBonus q (over h) = let z : ran.To y ≡ ran.OverBonus x.at = e ∙ sym (ran_over true (suc n) s x (omega arith) (sym q)) in never (cc)
+        ap (λ (o : Objects). good (bare o)) z ∙ ran_stop false (suc n) s (bare x) (bare_stop s x h)
+    go more step.OverBonus q (over h) = let z : good y ≡ refused (refusal_at BONUS x.at) = e ∙ sym (ran_over true (suc n) s x (omega arith) (sym q)) in cc

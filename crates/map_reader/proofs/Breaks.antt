@@ -1,4 +1,5 @@
 -- The header of a map and the breaks behind it: what the code read of them is what the definition reads.
+use Rattle.rules.specs.declared.refusal.Rule.{Rule}
 use mathlib.Core.Path.{◌≡◌, refl, sym, ap, ◌∙◌, subst}
 use mathlib.Core.Bool.{Bool, true, false}
 use mathlib.Core.List.{List, []}
@@ -9,9 +10,9 @@ use lib.Dec.{eqb}
 use lib.ListN.{length, drop, length-drop}
 use Rattle.numbers.specs.Words.{word_at}
 use Rattle.rules.specs.Limits.{max_breaks}
-use Rattle.rules.specs.Refusals.{good, refused, pick}
+use Rattle.rules.specs.Refusals.{good, refused, pick, CUT, MARK}
 use Rattle.rules.proofs.All.{All, that, all_any, all_when, all_out}
-use Rattle.rules.proofs.Laws.{never, and_left, and_right}
+use Rattle.rules.proofs.Laws.{and_left, and_right}
 use Rattle.records.specs.Objects.{bonus}
 use Rattle.records.specs.Records.{Content, header, break, object, play, FoundRecord, break_of, content_view}
 use Rattle.records.specs.declared.beatmap.Settings.{Settings}
@@ -22,13 +23,8 @@ use Rattle.map_file.specs.View.{Fits, fresh_of}
 use Rattle.map_file.proofs.Reading.{Chain, chain_inside, start, longer, on_start, on_stop, on_end, found_at, length_snoc}
 use Rattle.map_file.proofs.Room.{record_fits, Begun, record_begun}
 use Rattle.map_reader.specs.Map.{objects_from, head_with, head_of, head_in, is_good, is_break, breaks_after, breaks_count}
-use Rattle.map_reader.specs.declared.map.Head.TheVariants as head
 use Rattle.map_reader.proofs.Records.{break_good, found_break}
 use Rattle.map_reader.proofs.Files.{chain_standing, NoBreak}
-
-some : (n : ℕ) → (n ≡ 0 → ⊥) → 0 < n
-some zero h = absurd (h refl)
-some (suc n) h = omega arith
 
 -- ---- the breaks: what was read of a map before its objects
 pub record BreaksAt (s : List ℕ) (t : Settings) (count : ℕ) (f : File) : Type 0 where
@@ -50,7 +46,7 @@ data BreakOnly (r : List ℕ) : Content → ℕ → Type 0 where
 
 break_only : (r : List ℕ) → All (λ f. BreakOnly r f.0 f.1) (break_of r)
 unfolding break_of
-break_only r = all_when 2 _ _ (λ e. all_any _ _ (λ a. all_any _ _ (λ b. that (only (ltb-false (length r) 18 e)))))
+break_only r = all_when CUT _ _ (λ e. all_any _ _ (λ a. all_any _ _ (λ b. that (only (ltb-false (length r) 18 e)))))
 
 -- a break that the code takes
 record BreakRead (r : List ℕ) : Type 0 where
@@ -73,12 +69,12 @@ break_read r e = go (break_of r) refl (break_only r) (and_right (eqb (word_at r 
     by_content (play _) n x6 q = elim x6 [ ]
 
     go : (x : FoundRecord) → break_of r ≡ x → All (λ f. BreakOnly r f.0 f.1) x → is_good x ≡ true → BreakRead r
-    go (refused n) q a h = never (cc)
+    go (refused n) q a h = cc
     go (good f) q a h = by_content f.0 f.1 (all_out a) q
 
 break_not : (r : List ℕ) (b : BreakPeriod) (n : ℕ) → is_break r ≡ false → word_at r 0 2 ≡ BR → break_of r ≡ good (break b, n) → ⊥
 unfolding is_break
-break_not r b n e m q = let z = simp (m, q) at e in never (cc)
+break_not r b n e m q = let z = simp (m, q) at e in cc
 
 module _ {s : List ℕ} {t : Settings} {count : ℕ} {f : File} (k : BreaksAt s t count f) where
   abbrev rest : List ℕ
@@ -157,51 +153,51 @@ record HeadRead (s : List ℕ) (t : Settings) : Type 0 where
   file : File
   at : BreaksAt s t 0 file
 
-head_read : (s : List ℕ) (t : Settings) → head.Is t ≡ head_in s → HeadRead s t
+head_read : (s : List ℕ) (t : Settings) → good t ≡ head_in s → HeadRead s t
 unfolding head_in counts_of bonus with_record
 head_read s t e = by_length (eqb (length s) 0) refl e
   where
-    by_content : 0 < length s → (x : Content) (n : ℕ) → record_of s fresh_of.counts ≡ good (x, n) → head.Is t ≡ head_with x → HeadRead s t
+    by_content : 0 < length s → (x : Content) (n : ℕ) → record_of s fresh_of.counts ≡ good (x, n) → good t ≡ head_with x → HeadRead s t
     by_content h (header u) n q e =
         let same : t ≡ u = cc in
         record {
           file = with_record nothing_read (header u, n);
           at = record { chain = longer start h q; begun = omega arith; early = omega arith; settings = sym same; breaks = refl; objects = refl };
         }
-    by_content h (break b) n q e = never (cc)
-    by_content h (object o) n q e = never (cc)
-    by_content h (play p) n q e = never (cc)
+    by_content h (break b) n q e = cc
+    by_content h (object o) n q e = cc
+    by_content h (play p) n q e = cc
 
-    by_found : 0 < length s → (x : FoundRecord) → record_of s fresh_of.counts ≡ x → head.Is t ≡ head_of x → HeadRead s t
-    by_found h (refused m) q e = never (cc)
+    by_found : 0 < length s → (x : FoundRecord) → record_of s fresh_of.counts ≡ x → good t ≡ head_of x → HeadRead s t
+    by_found h (refused m) q e = cc
     by_found h (good f) q e = by_content h f.0 f.1 q e
 
-    by_length : (b : Bool) → eqb (length s) 0 ≡ b → head.Is t ≡ pick b (head.Refused 3) (head_of (record_of s fresh_of.counts)) → HeadRead s t
-    by_length true q e = never (cc)
-    by_length false q e = by_found (some (length s) (eqb-false (length s) 0 q)) (record_of s fresh_of.counts) refl e
+    by_length : (b : Bool) → eqb (length s) 0 ≡ b → good t ≡ pick b (refused MARK) (head_of (record_of s fresh_of.counts)) → HeadRead s t
+    by_length true q e = cc
+    by_length false q e = by_found (omega (arith, eqb-false (length s) 0 q)) (record_of s fresh_of.counts) refl e
 
-pub head_refuses : (s : List ℕ) (n : ℕ) → head.Refused n ≡ head_in s → file_of s ≡ refused_at n 0 nothing_read
+pub head_refuses : (s : List ℕ) (n : Rule) → refused n ≡ head_in s → file_of s ≡ refused_at n 0 nothing_read
 unfolding head_in counts_of bonus
 head_refuses s n e = by_length (eqb (length s) 0) refl e
   where
-    by_content : (x : Content) (m : ℕ) → Begun fresh_of.counts x → head.Refused n ≡ head_with x → ⊥
-    by_content (header t) m b e = never (cc)
+    by_content : (x : Content) (m : ℕ) → Begun fresh_of.counts x → refused n ≡ head_with x → ⊥
+    by_content (header t) m b e = cc
     by_content (break x) m b e = omega (arith, b)
     by_content (object o) m b e = omega (arith, b)
     by_content (play p) m b e = omega (arith, b)
 
-    by_found : 0 < length s → (x : FoundRecord) → record_of s fresh_of.counts ≡ x → head.Refused n ≡ head_of x → file_of s ≡ refused_at n 0 nothing_read
-    by_found h (refused m) q e = let k : n ≡ m = cc in on_stop s nothing_read m (on_start s) h q ∙ ap (λ (i : ℕ). refused_at i 0 nothing_read) (sym k)
+    by_found : 0 < length s → (x : FoundRecord) → record_of s fresh_of.counts ≡ x → refused n ≡ head_of x → file_of s ≡ refused_at n 0 nothing_read
+    by_found h (refused m) q e = let k : n ≡ m = cc in on_stop s nothing_read m (on_start s) h q ∙ ap (λ (i : Rule). refused_at i 0 nothing_read) (sym k)
     by_found h (good f) q e = absurd (by_content f.0 f.1 (all_out (subst (All (λ g. Begun fresh_of.counts g.0)) q (record_begun s fresh_of.counts))) e)
 
-    by_length : (b : Bool) → eqb (length s) 0 ≡ b → head.Refused n ≡ pick b (head.Refused 3) (head_of (record_of s fresh_of.counts)) → file_of s ≡ refused_at n 0 nothing_read
+    by_length : (b : Bool) → eqb (length s) 0 ≡ b → refused n ≡ pick b (refused MARK) (head_of (record_of s fresh_of.counts)) → file_of s ≡ refused_at n 0 nothing_read
     by_length true q e =
-        let k : n ≡ 3 = cc in
+        let k : n ≡ MARK = cc in
         let z = eqb-true (length s) 0 q in
-        on_end s nothing_read (on_start s) (omega (arith, z)) ∙ ap (λ (i : ℕ). refused_at i 0 nothing_read) (sym k)
-    by_length false q e = by_found (some (length s) (eqb-false (length s) 0 q)) (record_of s fresh_of.counts) refl e
+        on_end s nothing_read (on_start s) (omega (arith, z)) ∙ ap (λ (i : Rule). refused_at i 0 nothing_read) (sym k)
+    by_length false q e = by_found (omega (arith, eqb-false (length s) 0 q)) (record_of s fresh_of.counts) refl e
 
-pub head_reads : (s : List ℕ) (t : Settings) → head.Is t ≡ head_in s → BreaksEnd s t (breaks_count s)
+pub head_reads : (s : List ℕ) (t : Settings) → good t ≡ head_in s → BreaksEnd s t (breaks_count s)
 head_reads s t e = let read = head_read s t e in breaks_ran max_breaks s t 0 read.file (omega arith) read.at
 
 -- the objects begin within the file

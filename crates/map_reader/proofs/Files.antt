@@ -8,9 +8,8 @@ use lib.Ieee.{binary64, of_bits}
 use lib.ListN.{length, drop, length-drop}
 use Rattle.numbers.specs.Words.{word_at}
 use Rattle.rules.specs.Limits.{max_objects, max_bonus, circle_size}
-use Rattle.rules.specs.Refusals.{good, refused}
+use Rattle.rules.specs.Refusals.{good, refused, OrRefusal, refusal_at, BONUS}
 use Rattle.rules.proofs.All.{All, all_out}
-use Rattle.rules.proofs.Laws.{never}
 use Rattle.records.specs.Objects.{Object, bonus, kind_bonus}
 use Rattle.records.specs.Records.{Content, header, break, object, play, FoundRecord, object_of}
 use Rattle.records.specs.declared.beatmap.BreakPeriod.{BreakPeriod}
@@ -33,8 +32,6 @@ use Rattle.map_reader.specs.Map.{StateOf}
 use Rattle.map_reader.specs.declared.objects.Objects.{Objects}
 use Rattle.map_reader.specs.declared.objects.Stepped.{Stepped}
 use Rattle.map_reader.specs.declared.objects.Stepped.TheVariants as step
-use Rattle.map_reader.specs.declared.objects.Ran.{Ran}
-use Rattle.map_reader.specs.declared.objects.Ran.TheVariants as ran
 use Rattle.map_reader.proofs.Stepping.{walk_legacy}
 use Rattle.map_reader.proofs.Records.{object_good, object_over, found_object, object_long, object_start}
 use Rattle.map_reader.proofs.Running.{count_of, object_at, Took, Stops, short, none, Answered, took, stop, over as over_by, answered, took_count, ran_next, ran_stop, ran_over}
@@ -118,7 +115,7 @@ module _ {s : List ℕ} {f : File} {x : Objects} (k : Keeps s f x) where
         ap (λ (m : ℕ). record_of (drop m s) (counts_of f)) (sym k.at)
         ∙ object_good (drop x.at s) (counts_of f) two o n e k.begun k.no_play (omega (arith, keeps_count, room)) (omega (arith, keeps_bonus, low))
 
-    pub keeps_over : max_bonus < bonus_of x + kind_bonus o.kind → found_at s f ≡ refused 7
+    pub keeps_over : max_bonus < bonus_of x + kind_bonus o.kind → found_at s f ≡ refused BONUS
     unfolding counts_of
     keeps_over high =
         ap (λ (m : ℕ). record_of (drop m s) (counts_of f)) (sym k.at)
@@ -136,7 +133,7 @@ module _ {s : List ℕ} {f : File} {x : Objects} (k : Keeps s f x) where
           omega (arith, h, k.at, most, sized.1, room)
       go (none {n = m} p) q =
           let z : ◌≡◌ {A = FoundRecord} (refused m) (good (object o, n)) = sym (subst (λ (a : ℕ). object_of (drop a s) (word_at (drop a s) 0 2) ≡ refused m) k.at p) ∙ q in
-          never (cc)
+          cc
 
   -- one object further
   module _ {y : Objects} (t : Took true s x y) (room : count_of x < max_objects) where
@@ -213,9 +210,9 @@ pub record Follows (s : List ℕ) (f g : File) (x : Objects) (more : List Object
   pub no_break : NoBreak s f → NoBreak s g
   pub first : 0 < length more → start_of more 0 ≡ of_bits binary64 (word_at (drop x.at s) 2 8)
 
-pub data RanFile (s : List ℕ) (f : File) (x : Objects) (n : ℕ) : Ran → Type 0 where
-  to : {y : Objects} (g : File) → Keeps s g y → Follows s f g x (objects_ran n s x) → Ends s (count_of x + n) y → RanFile s f x n (ran.To y)
-  over : {at : ℕ} (g : File) → file_of s ≡ refused_at 7 at g → g.plays ≡ [] → RanFile s f x n (ran.OverBonus at)
+pub data RanFile (s : List ℕ) (f : File) (x : Objects) (n : ℕ) : OrRefusal Objects → Type 0 where
+  to : {y : Objects} (g : File) → Keeps s g y → Follows s f g x (objects_ran n s x) → Ends s (count_of x + n) y → RanFile s f x n (good y)
+  over : {at : ℕ} (g : File) → file_of s ≡ refused_at BONUS at g → g.plays ≡ [] → RanFile s f x n (refused (refusal_at BONUS at))
 
 follows_none : (s : List ℕ) (f : File) (x : Objects) (more : List Object) → more ≡ [] → Follows s f f x more
 follows_none s f x more e = record {
@@ -248,11 +245,11 @@ keeps_ran (suc n) s f x k h = go (λ g y m l. keeps_ran n s g y m l) (next_of tr
     room : count_of x < max_objects
     room = omega (arith, h)
 
-    further : (y : Objects) (t : Took true s x y) → step.Next y ≡ next_of true s x → (r : Ran) → RanFile s (file_with k t room) y n r → RanFile s f x (suc n) r
-    further y t e (ran.To z) (to g kg w ends) =
+    further : (y : Objects) (t : Took true s x y) → step.Next y ≡ next_of true s x → (r : OrRefusal Objects) → RanFile s (file_with k t room) y n r → RanFile s f x (suc n) r
+    further y t e (good z) (to g kg w ends) =
         let count = took_count t in
         to g kg (follows_more k t room g (objects_ran n s y) (objects_ran (suc n) s x) w (taken_next n s x y e t)) (ends_more (omega (arith, count)) ends)
-    further y t e (ran.OverBonus at) (over g q p) = over g q p
+    further y t e (refused r) (over g q p) = over g q p
 
     go : ((g : File) (y : Objects) → Keeps s g y → count_of y + n ≤ max_objects → RanFile s g y n (ran_of true n s y))
         → (a : Stepped) → next_of true s x ≡ a → Answered true s x a → RanFile s f x (suc n) (ran_by x (next_of true s x) (λ y. ran_of true n s y))
@@ -266,4 +263,4 @@ keeps_ran (suc n) s f x k h = go (λ g y m l. keeps_ran n s g y m l) (next_of tr
         subst
         (RanFile s f x (suc n))
         (ran_over true (suc n) s x (omega arith) (sym e))
-        (over f (on_stop s f 7 (chain_on s f k.chain) (before_end k h.long room h.o h.size h.found) found ∙ ap (λ (m : ℕ). refused_at 7 m f) (sym k.at)) (chain_plays s f k.chain k.no_play))
+        (over f (on_stop s f BONUS (chain_on s f k.chain) (before_end k h.long room h.o h.size h.found) found ∙ ap (λ (m : ℕ). refused_at BONUS m f) (sym k.at)) (chain_plays s f k.chain k.no_play))

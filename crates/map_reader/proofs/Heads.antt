@@ -4,43 +4,37 @@ use mathlib.Core.Bool.{Bool, true, false, not}
 use mathlib.Core.List.{List}
 use Prim.Native.Nat.{ℕ, zero, suc, ◌+◌, ◌-◌, ◌≤◌, ◌<◌}
 use native.Mathlib.Omega.{arith}
+use Rattle.std.specs.Prelude.{is_ok}
 use lib.Dec.{eqb}
 use lib.ListN.{length, drop}
 use borrow.Author.Tests.{lt-ltb, le-ltb, ne_eqb}
 use Rattle.numbers.specs.Words.{word_at}
 use Rattle.rules.specs.Limits.{max_breaks}
-use Rattle.rules.specs.Refusals.{good, refused, ◌>>=◌, ◌>>◌, refuse◌when◌, pick, CUT, MARK, BONUS}
+use Rattle.rules.specs.Refusals.{good, refused, ◌>>=◌, ◌>>◌, refuse◌when◌, pick, CUT, MARK, BONUS, Checked}
 use Rattle.rules.proofs.All.{All, none, that, all_any, all_when}
-use Rattle.rules.proofs.Laws.{never}
 use Rattle.records.specs.Records.{Content, header, break, object, play, FoundRecord, CI, SL, SP, header_of, content_view, record_read}
+use Rattle.records.specs.declared.beatmap.Settings.{Settings}
 use Rattle.records.specs.declared.record.Record.{Record}
 use Rattle.records.specs.declared.record.Record.TheVariants as record_case
-use Rattle.records.specs.declared.record.Read.TheVariants.{Good, Refused}
 use Rattle.map_file.specs.Order.{MH, BR, PL, no_rank, header_rank, break_rank, object_rank, play_rank, in_order, over_bonus, content_bonus, body_of, record_of}
 use Rattle.map_file.specs.View.{fresh_of}
 use Rattle.map_file.proofs.Room.{place_of}
-use Rattle.map_reader.specs.Map.{objects_from, head_with, head_of, head_in, is_good, is_break, breaks_after, stop_of}
-use Rattle.map_reader.specs.declared.map.Head.{Head}
-use Rattle.map_reader.specs.declared.map.Head.TheVariants as head
-use Rattle.map_reader.specs.declared.map.Stop.TheVariants as stop
+use Rattle.map_reader.specs.Map.{objects_from, head_with, head_of, head_in, is_good, is_break, breaks_after, end_of}
 
--- ---- the record behind a map
-pub stop_refused : (x : FoundRecord) (n : ℕ) → Refused n ≡ record_read x → stop.Refused n ≡ stop_of x
-stop_refused (refused m) n e = let k : n ≡ m = cc in rw k
-stop_refused (good f) n e = never (cc)
+-- ---- what a read record says
+abbrev pub end_read : Checked (Record × ℕ) → Checked (Unit {0})
+end_read (refused n) = refused n
+end_read (good r) = good tt
 
-pub stop_next : (x : FoundRecord) (item : Record) (size : ℕ) → Good item size ≡ record_read x → stop.Ends ≡ stop_of x
-stop_next (refused m) item size e = never (cc)
-stop_next (good f) item size e = refl
+-- of the record behind a map
+pub ended : (x : FoundRecord) → end_of x ≡ end_read (record_read x)
+ended (refused n) = refl
+ended (good f) = refl
 
--- ---- a break
-pub good_not : (x : FoundRecord) (n : ℕ) → Refused n ≡ record_read x → is_good x ≡ false
-good_not (refused m) n e = refl
-good_not (good f) n e = never (cc)
-
-pub good_is : (x : FoundRecord) (item : Record) (size : ℕ) → Good item size ≡ record_read x → is_good x ≡ true
-good_is (refused m) item size e = never (cc)
-good_is (good f) item size e = refl
+-- of a break
+pub good_read : (x : FoundRecord) → is_good x ≡ is_ok (record_read x)
+good_read (refused n) = refl
+good_read (good f) = refl
 
 -- ---- the breaks behind `count` others
 after_stop : (n : ℕ) (s : List ℕ) (count : ℕ) → is_break (drop (objects_from count) s) ≡ false → breaks_after n s count ≡ count
@@ -80,7 +74,7 @@ other_rank false false false false false = refl
 
 header_only : (s : List ℕ) → All (λ f. place_of f.0 ≡ header_rank) (header_of s)
 unfolding header_of
-header_only s = all_when 2 _ _ (λ _. all_any _ _ (λ hp. all_any _ _ (λ od. all_any _ _ (λ cs. that refl))))
+header_only s = all_when CUT _ _ (λ _. all_any _ _ (λ hp. all_any _ _ (λ od. all_any _ _ (λ cs. that refl))))
 
 -- a header has no bonus
 under_bonus : (x : FoundRecord) → All (λ f. place_of f.0 ≡ header_rank) x
@@ -88,16 +82,37 @@ under_bonus : (x : FoundRecord) → All (λ f. place_of f.0 ≡ header_rank) x
 unfolding ◌>>=◌ ◌>>◌ refuse◌when◌
 under_bonus (refused n) none = refl
 under_bonus (good (header t, n)) (that p) = refl
-under_bonus (good (break b, n)) (that p) = never (omega (arith, p))
-under_bonus (good (object o, n)) (that p) = never (omega (arith, p))
-under_bonus (good (play y, n)) (that p) = never (omega (arith, p))
+under_bonus (good (break b, n)) (that p) = absurd (omega (arith, p))
+under_bonus (good (object o, n)) (that p) = absurd (omega (arith, p))
+under_bonus (good (play y, n)) (that p) = absurd (omega (arith, p))
+
+-- what the code takes of a record
+abbrev head_by : Record → Checked Settings
+head_by (record_case.Header t) = good t
+head_by (record_case.Break b) = refused MARK
+head_by (record_case.Object o) = refused MARK
+head_by (record_case.Play p) = refused MARK
+
+abbrev pub head_taken : Checked (Record × ℕ) → Checked Settings
+head_taken (refused n) = refused n
+head_taken (good r) = head_by r.0
+
+by_content : (x : Content) → head_with x ≡ head_by (content_view x)
+by_content (header t) = refl
+by_content (break b) = refl
+by_content (object o) = refl
+by_content (play p) = refl
+
+headed : (x : FoundRecord) → head_of x ≡ head_taken (record_read x)
+headed (refused n) = refl
+headed (good f) = by_content f.0
 
 module _ (s : List ℕ) where
-  pub head_cut : (length s ≡ 0 → ⊥) → length s < 2 → head.Refused CUT ≡ head_in s
+  pub head_cut : (length s ≡ 0 → ⊥) → length s < 2 → head_in s ≡ refused CUT
   unfolding head_in record_of ◌>>=◌ ◌>>◌ refuse◌when◌
   head_cut some h = simp (ne_eqb (length s) 0 some, lt-ltb (length s) 2 h)
 
-  pub head_marked : 2 ≤ length s → (word_at s 0 2 ≡ MH → ⊥) → head.Refused MARK ≡ head_in s
+  pub head_marked : 2 ≤ length s → (word_at s 0 2 ≡ MH → ⊥) → head_in s ≡ refused MARK
   unfolding head_in record_of ◌>>=◌ ◌>>◌ refuse◌when◌
   head_marked h e =
       let mark = word_at s 0 2 in
@@ -112,27 +127,6 @@ module _ (s : List ℕ) where
   unfolding record_of body_of ◌>>◌ refuse◌when◌
   header_first h e = simp (le-ltb (length s) 2 h, e) (under_bonus (header_of s) (header_only s))
 
-  pub head_read : 2 ≤ length s → word_at s 0 2 ≡ MH → head_of (header_of s) ≡ head_in s
+  pub head_read : 2 ≤ length s → word_at s 0 2 ≡ MH → head_in s ≡ head_taken (record_read (header_of s))
   unfolding head_in
-  head_read h e = simp (ne_eqb (length s) 0 (λ z. (omega (arith, h, z))), header_first h e)
-
--- what the code takes of a record
-abbrev pub head_by : Record → Head
-head_by (record_case.Header t) = head.Is t
-head_by (record_case.Break b) = head.Refused MARK
-head_by (record_case.Object o) = head.Refused MARK
-head_by (record_case.Play p) = head.Refused MARK
-
-pub head_refused : (x : FoundRecord) (n : ℕ) → Refused n ≡ record_read x → head.Refused n ≡ head_of x
-head_refused (refused m) n e = let k : n ≡ m = cc in rw k
-head_refused (good f) n e = never (cc)
-
-by_content : (x : Content) → head_by (content_view x) ≡ head_with x
-by_content (header t) = refl
-by_content (break b) = refl
-by_content (object o) = refl
-by_content (play p) = refl
-
-pub head_good : (x : FoundRecord) (item : Record) (size : ℕ) → Good item size ≡ record_read x → head_by item ≡ head_of x
-head_good (refused m) item size e = never (cc)
-head_good (good f) item size e = let k : item ≡ content_view f.0 = cc in ap head_by k ∙ by_content f.0
+  head_read h e = simp (ne_eqb (length s) 0 (λ z. (omega (arith, h, z))), header_first h e) (headed (header_of s))

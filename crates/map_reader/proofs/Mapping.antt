@@ -1,8 +1,9 @@
 -- What the code read is the map of the file: behind the header and the breaks all objects in one run, then a play, nothing, or a refused record.
+use Rattle.rules.specs.declared.refusal.Rule.{Rule}
 use mathlib.Core.Path.{◌≡◌, refl, sym, ap, ◌∙◌, subst}
 use mathlib.Core.Bool.{Bool, true, false}
 use mathlib.Core.List.{List, [], ◌∷◌, ◌++◌}
-use Prim.Native.Nat.{ℕ, zero, suc, ◌-◌, ◌≤◌, ◌<◌, min}
+use Prim.Native.Nat.{ℕ, zero, suc, ◌≤◌, ◌<◌, min}
 use native.Mathlib.Omega.{arith}
 use borrow.Author.Tests.{lt-ltb, eqb-true, eqb-false, leb-true, leb-false, ne_eqb}
 use lib.Dec.{eqb, leb}
@@ -12,9 +13,8 @@ use lib.Seq.{take_all}
 use Rattle.numbers.specs.Words.{word_at}
 use Rattle.numbers.proofs.words.Laws.{word_at-drop}
 use Rattle.rules.specs.Limits.{max_objects}
-use Rattle.rules.specs.Refusals.{good, refused, pick}
+use Rattle.rules.specs.Refusals.{good, refused, pick, Checked, OrRefusal, refusal_at}
 use Rattle.rules.proofs.All.{All, all_out}
-use Rattle.rules.proofs.Laws.{never}
 use Rattle.records.specs.Objects.{Object}
 use Rattle.records.specs.Records.{Content, header, break, object, play, FoundRecord, content_view}
 use Rattle.records.specs.declared.beatmap.Settings.{Settings}
@@ -27,14 +27,8 @@ use Rattle.map_file.proofs.Room.{record_fits}
 use Rattle.ruleset.specs.Drain.{start_of}
 use Rattle.ruleset.proofs.FileBreaks.{Placed, record_placed}
 use Rattle.map_reader.specs.Objects.{objects_at, ran_of}
-use Rattle.map_reader.specs.Map.{objects_from, head_in, breaks_count, first_start_of, rank_behind, reader_behind, stop_of, stop_in, map_at, map_stopped, map_to, then_read, rest_of, objects_of, StateOf, RanTo, to as ran_to, Behind, nothing, plays, MapIs, MapReadOf, is, refuses}
+use Rattle.map_reader.specs.Map.{objects_from, head_in, breaks_count, first_start_of, rank_behind, reader_behind, end_of, end_in, map_at, map_ended, map_to, then_read, rest_of, objects_of, StateOf, RanTo, to as ran_to, Behind, nothing, plays, MapIs, MapReadOf, is, refuses}
 use Rattle.map_reader.specs.declared.objects.Objects.{Objects}
-use Rattle.map_reader.specs.declared.objects.Ran.{Ran}
-use Rattle.map_reader.specs.declared.objects.Ran.TheVariants as ran
-use Rattle.map_reader.specs.declared.map.MapRead.TheVariants as read
-use Rattle.map_reader.specs.declared.map.Head.TheVariants as head
-use Rattle.map_reader.specs.declared.map.Stop.{Stop}
-use Rattle.map_reader.specs.declared.map.Stop.TheVariants as stop
 use Rattle.map_reader.proofs.Running.{count_of, next_stops}
 use Rattle.map_reader.proofs.Records.{found_play}
 use Rattle.map_reader.proofs.Files.{chain_limits, state_count, state_bonus, state_none, Keeps, NoBreak, keeps_stops, Ends, full, stopped, Follows, RanFile, to, over, keeps_ran, objects_ran}
@@ -47,32 +41,32 @@ unfolding with_record
 chain_no_objects s f start h = refl
 chain_no_objects s f (longer {f = g} {r = (header t, n)} c b e) h = chain_no_objects s g c (omega (arith, found_ordered s g (header t, n) e))
 chain_no_objects s f (longer {f = g} {r = (break x, n)} c b e) h = chain_no_objects s g c (omega (arith, found_ordered s g (break x, n) e))
-chain_no_objects s f (longer {f = g} {r = (object o, n)} c b e) h = never (omega (arith, h))
-chain_no_objects s f (longer {f = g} {r = (play p, n)} c b e) h = never (omega (arith, h))
+chain_no_objects s f (longer {f = g} {r = (object o, n)} c b e) h = absurd (omega (arith, h))
+chain_no_objects s f (longer {f = g} {r = (play p, n)} c b e) h = absurd (omega (arith, h))
 
 chain_no_breaks : (s : List ℕ) (f : File) → Chain s f → f.last ≤ 1 → f.map.breaks ≡ []
 unfolding with_record
 chain_no_breaks s f start h = refl
 chain_no_breaks s f (longer {f = g} {r = (header t, n)} c b e) h = chain_no_breaks s g c (omega (arith, found_ordered s g (header t, n) e))
-chain_no_breaks s f (longer {f = g} {r = (break x, n)} c b e) h = never (omega (arith, h))
-chain_no_breaks s f (longer {f = g} {r = (object o, n)} c b e) h = never (omega (arith, h))
-chain_no_breaks s f (longer {f = g} {r = (play p, n)} c b e) h = never (omega (arith, h))
+chain_no_breaks s f (longer {f = g} {r = (break x, n)} c b e) h = absurd (omega (arith, h))
+chain_no_breaks s f (longer {f = g} {r = (object o, n)} c b e) h = absurd (omega (arith, h))
+chain_no_breaks s f (longer {f = g} {r = (play p, n)} c b e) h = absurd (omega (arith, h))
 
 chain_objects : (s : List ℕ) (f : File) → Chain s f → f.last ≡ 3 → 0 < length f.map.objects
 unfolding with_record
-chain_objects s f start h = never (omega (arith, h))
-chain_objects s f (longer {f = g} {r = (header t, n)} c b e) h = never (omega (arith, h))
-chain_objects s f (longer {f = g} {r = (break x, n)} c b e) h = never (omega (arith, h))
+chain_objects s f start h = absurd (omega (arith, h))
+chain_objects s f (longer {f = g} {r = (header t, n)} c b e) h = absurd (omega (arith, h))
+chain_objects s f (longer {f = g} {r = (break x, n)} c b e) h = absurd (omega (arith, h))
 chain_objects s f (longer {f = g} {r = (object o, n)} c b e) h = let m = length_snoc g.map.objects o in omega (arith, m)
-chain_objects s f (longer {f = g} {r = (play p, n)} c b e) h = never (omega (arith, h))
+chain_objects s f (longer {f = g} {r = (play p, n)} c b e) h = absurd (omega (arith, h))
 
 chain_breaks : (s : List ℕ) (f : File) → Chain s f → f.last ≡ 2 → 0 < length f.map.breaks
 unfolding with_record
-chain_breaks s f start h = never (omega (arith, h))
-chain_breaks s f (longer {f = g} {r = (header t, n)} c b e) h = never (omega (arith, h))
+chain_breaks s f start h = absurd (omega (arith, h))
+chain_breaks s f (longer {f = g} {r = (header t, n)} c b e) h = absurd (omega (arith, h))
 chain_breaks s f (longer {f = g} {r = (break x, n)} c b e) h = let m = length_snoc g.map.breaks x in omega (arith, m)
-chain_breaks s f (longer {f = g} {r = (object o, n)} c b e) h = never (omega (arith, h))
-chain_breaks s f (longer {f = g} {r = (play p, n)} c b e) h = never (omega (arith, h))
+chain_breaks s f (longer {f = g} {r = (object o, n)} c b e) h = absurd (omega (arith, h))
+chain_breaks s f (longer {f = g} {r = (play p, n)} c b e) h = absurd (omega (arith, h))
 
 pub chain_rank : (s : List ℕ) (f : File) → Chain s f → 0 < f.last → f.last ≤ 3 → rank_behind (length f.map.breaks) (length f.map.objects) ≡ f.last
 chain_rank s f c b h = go (eqb f.last 3) (eqb f.last 2) refl refl
@@ -93,9 +87,9 @@ chain_rank s f c b h = go (eqb f.last 3) (eqb f.last 2) refl refl
         last_is (suc (suc (suc n))) b h p q = absurd (p (omega (arith, h)))
 
 -- ---- what stands behind all objects
-data StopAt (s : List ℕ) (g : File) : Stop → Type 0 where
-  ends : Behind s g.at → StopAt s g stop.Ends
-  stops : {n : ℕ} → file_of s ≡ refused_at n g.at g → StopAt s g (stop.Refused n)
+data StopAt (s : List ℕ) (g : File) : Checked (Unit {0}) → Type 0 where
+  ends : Behind s g.at → StopAt s g (good tt)
+  stops : {n : Rule} → file_of s ≡ refused_at n g.at g → StopAt s g (refused n)
 
 module _ {s : List ℕ} {g : File} {all : Objects} (k : Keeps s g all) (free : NoBreak s g) (done : Ends s max_objects all) where
   no_record : (x : Content) (n : ℕ) → found_at s g ≡ good (x, n) → (word_at (drop g.at s) 0 2 ≡ PL → ⊥) → ⊥
@@ -114,19 +108,19 @@ module _ {s : List ℕ} {g : File} {all : Objects} (k : Keeps s g all) (free : N
       go (stopped m q) = keeps_stops k (next_stops true s all q) o n e
   no_record (play p) n e h = h (found_play (drop g.at s) (counts_of g) (play p, n) e refl)
 
-  stop_at : StopAt s g (stop_in s (view g))
-  unfolding stop_in view
+  stop_at : StopAt s g (end_in s (view g))
+  unfolding end_in view
   stop_at = by_end (leb (length s) g.at) refl
     where
-      by_found : g.at < length s → (word_at (drop g.at s) 0 2 ≡ PL → ⊥) → (x : FoundRecord) → found_at s g ≡ x → StopAt s g (stop_of x)
+      by_found : g.at < length s → (word_at (drop g.at s) 0 2 ≡ PL → ⊥) → (x : FoundRecord) → found_at s g ≡ x → StopAt s g (end_of x)
       by_found h m (refused n) e = stops (on_stop s g n (chain_on s g k.chain) h e)
       by_found h m (good f) e = absurd (no_record f.0 f.1 e m)
 
-      by_mark : g.at < length s → (b : Bool) → eqb (word_at (drop g.at s) 0 2) PL ≡ b → StopAt s g (pick b stop.Ends (stop_of (found_at s g)))
+      by_mark : g.at < length s → (b : Bool) → eqb (word_at (drop g.at s) 0 2) PL ≡ b → StopAt s g (pick b (good tt) (end_of (found_at s g)))
       by_mark h true e = ends (plays h (eqb-true _ PL e))
       by_mark h false e = by_found h (eqb-false _ PL e) (found_at s g) refl
 
-      by_end : (b : Bool) → leb (length s) g.at ≡ b → StopAt s g (pick b stop.Ends (pick (eqb (word_at (drop g.at s) 0 2) PL) stop.Ends (stop_of (found_at s g))))
+      by_end : (b : Bool) → leb (length s) g.at ≡ b → StopAt s g (pick b (good tt) (pick (eqb (word_at (drop g.at s) 0 2) PL) (good tt) (end_of (found_at s g))))
       by_end true e = ends (nothing (leb-true _ _ e))
       by_end false e = by_mark (leb-false _ _ e) (eqb (word_at (drop g.at s) 0 2) PL) refl
 
@@ -156,8 +150,8 @@ module _ {s : List ℕ} {t : Settings} {count : ℕ} (k : BreaksEnd s t count) (
   }
 
   -- of all objects and the state behind some of them
-  module _ (all : Objects) (g : File) (e : ran.To all ≡ ran_of true max_objects s from) (kg : Keeps s g all) (w : Follows s f g from (objects_ran max_objects s from))
-      (passed : Objects) (e' : ran.To passed ≡ ran_of true (min p max_objects) s from) where
+  module _ (all : Objects) (g : File) (e : good all ≡ ran_of true max_objects s from) (kg : Keeps s g all) (w : Follows s f g from (objects_ran max_objects s from))
+      (passed : Objects) (e' : good passed ≡ ran_of true (min p max_objects) s from) where
     abbrev os : List Object
     os = g.map.objects
 
@@ -170,7 +164,7 @@ module _ {s : List ℕ} {t : Settings} {count : ℕ} (k : BreaksEnd s t count) (
     passed_is : StateOf (take p os) passed
     passed_is = subst (λ (l : List Object). StateOf l passed) (cut p) (out (subst (RanTo (take (min p max_objects) os)) (sym e') (states (min p max_objects) (omega arith))))
       where
-        out : {l : List Object} {x : Objects} → RanTo l (ran.To x) → StateOf l x
+        out : {l : List Object} {x : Objects} → RanTo l (good x) → StateOf l x
         out (ran_to h) = h
 
         cut : (p : ℕ) → take (min p max_objects) os ≡ take p os
@@ -217,40 +211,33 @@ module _ {s : List ℕ} {t : Settings} {count : ℕ} (k : BreaksEnd s t count) (
       nexts = λ n h. ran_nexts s f from keeps_start k.at.objects all g e w n h few;
     }
 
-    map_to_lem : (x : Stop) → StopAt s g x → MapReadOf s p (map_stopped s t count passed all x)
-    map_to_lem stop.Ends (ends h) = is (map_is h)
-    map_to_lem (stop.Refused n) (stops q) = refuses (q ∙ ap (λ (m : ℕ). refused_at n m g) (sym kg.at)) (chain_plays s g kg.chain kg.no_play)
+    map_to_lem : (x : Checked (Unit {0})) → StopAt s g x → MapReadOf s p (map_ended s t count passed all x)
+    map_to_lem (good tt) (ends h) = is (map_is h)
+    map_to_lem (refused n) (stops q) = refuses (q ∙ ap (λ (m : ℕ). refused_at n m g) (sym kg.at)) (chain_plays s g kg.chain kg.no_play)
 
     stopped_is : (done : Ends s max_objects all) → MapReadOf s p (map_to s t count passed all)
     stopped_is done =
         let free = w.no_break k.no_break in
         let v = view_is kg free done t count (w.settings ∙ k.at.settings) (ap length w.breaks ∙ k.at.breaks) in
-        map_to_lem (stop_in s (reader_behind t count all)) (subst (λ (r : Reader). StopAt s g (stop_in s r)) (sym v) (stop_at kg free done))
+        map_to_lem (end_in s (reader_behind t count all)) (subst (λ (r : Reader). StopAt s g (end_in s r)) (sym v) (stop_at kg free done))
 
   -- all objects behind those that are passed
-  read_all : (passed : Objects) → ran.To passed ≡ ran_of true (min p max_objects) s from → (r : Ran) → r ≡ ran_of true max_objects s from → RanFile s f from max_objects r
+  read_all : (passed : Objects) → good passed ≡ ran_of true (min p max_objects) s from → (r : OrRefusal Objects) → r ≡ ran_of true max_objects s from → RanFile s f from max_objects r
       → MapReadOf s p (then_read (map_to s t count passed) r)
-  read_all passed e (ran.OverBonus at) q (over g h n) = refuses h n
-  read_all passed e (ran.To all) q (to g kg w done) = stopped_is all g q kg w passed e done
+  read_all passed e (refused r) q (over g h n) = refuses h n
+  read_all passed e (good all) q (to g kg w done) = stopped_is all g q kg w passed e done
 
   pub objects_read : MapReadOf s p (objects_of s t count p)
   objects_read = go (ran_of true (min p max_objects) s from) refl (keeps_ran (min p max_objects) s f from keeps_start (omega arith))
     where
-      go : (r : Ran) → ran_of true (min p max_objects) s from ≡ r → RanFile s f from (min p max_objects) r → MapReadOf s p (then_read (rest_of s t count) r)
-      go (ran.OverBonus at) e (over g h n) = refuses h n
-      go (ran.To y) e (to g kg w done) =
+      go : (r : OrRefusal Objects) → ran_of true (min p max_objects) s from ≡ r → RanFile s f from (min p max_objects) r → MapReadOf s p (then_read (rest_of s t count) r)
+      go (refused r) e (over g h n) = refuses h n
+      go (good y) e (to g kg w done) =
           let on = reads_on s f from keeps_start k.at.objects (min p max_objects) y (omega arith) (sym e) done in
-          subst (λ (r : Ran). MapReadOf s p (then_read (map_to s t count y) r)) (sym on) (read_all y (sym e) (ran_of true max_objects s from) refl (keeps_ran max_objects s f from keeps_start (omega arith)))
+          subst (λ (r : OrRefusal Objects). MapReadOf s p (then_read (map_to s t count y) r)) (sym on) (read_all y (sym e) (ran_of true max_objects s from) refl (keeps_ran max_objects s f from keeps_start (omega arith)))
 
-pub read_is : (s : List ℕ) (t : Settings) (p : ℕ) → head.Is t ≡ head_in s → MapReadOf s p (objects_of s t (breaks_count s) p)
+pub read_is : (s : List ℕ) (t : Settings) (p : ℕ) → good t ≡ head_in s → MapReadOf s p (objects_of s t (breaks_count s) p)
 read_is s t p e = objects_read (head_reads s t e) p
 
-pub read_refused : (s : List ℕ) (n p : ℕ) → head.Refused n ≡ head_in s → MapReadOf s p (read.Refused n 0)
+pub read_refused : (s : List ℕ) (n : Rule) (p : ℕ) → refused n ≡ head_in s → MapReadOf s p (refused (refusal_at n 0))
 read_refused s n p e = refuses (head_refuses s n e) refl
-
--- ---- from what the calls said
-pub ran_from : (s : List ℕ) (breaks p limit at : ℕ) (x : Objects) → limit ≡ min p max_objects → at ≡ objects_from breaks → x ≡ objects_at at
-    → ran_of true (limit - count_of x) s x ≡ ran_of true (min p max_objects) s (objects_at (objects_from breaks))
-ran_from s breaks p limit at x e q k =
-    let n : limit - 0 ≡ min p max_objects = omega (arith, e) in
-    ap (λ (z : Objects). ran_of true (limit - count_of z) s z) (k ∙ ap objects_at q) ∙ ap (λ (i : ℕ). ran_of true i s (objects_at (objects_from breaks))) n

@@ -10,9 +10,8 @@ use lib.Ieee.{binary64, of_bits}
 use lib.ListN.{length}
 use Rattle.numbers.specs.Words.{word_at}
 use Rattle.rules.specs.Limits.{max_objects, max_breaks, max_bonus, circle_size}
-use Rattle.rules.specs.Refusals.{good, refused, ◌>>=◌, ◌>>◌, refuse◌when◌, pick}
+use Rattle.rules.specs.Refusals.{good, refused, ◌>>=◌, ◌>>◌, refuse◌when◌, pick, BONUS, CUT, COUNT}
 use Rattle.rules.proofs.All.{All, none, that, all_bind, all_any, all_when, all_pick, all_out}
-use Rattle.rules.proofs.Laws.{never}
 use Rattle.records.specs.Objects.{Object, kind_bonus}
 use Rattle.records.specs.Records.{Content, header, break, object, play, CI, SL, SP, break_of, circle_of, slider_of, spinner_of, object_of}
 use Rattle.records.specs.declared.beatmap.BreakPeriod.{BreakPeriod}
@@ -76,7 +75,7 @@ module _ (r : List ℕ) (m : ℕ) where
 
   third : (f : Content × ℕ) → object_of r m ≡ good f → Third r m
   unfolding object_of
-  third f e = third_by (eqb m CI) (eqb m SL) (eqb m SP) refl refl refl (λ p q w. (let z = simp (p, q, w) at e in never (cc)))
+  third f e = third_by (eqb m CI) (eqb m SL) (eqb m SP) refl refl refl (λ p q w. (let z = simp (p, q, w) at e in cc))
 
   third_rank : rank_of m ≡ 3 → Third r m
   third_rank e =
@@ -95,7 +94,7 @@ module _ (r : List ℕ) (c : Counts) (two : 2 ≤ length r) where
       simp (le-ltb (length r) 2 two, is.place, lt-ltb 0 c.last begun, le-leb c.last 3 order, lt-leb max_objects c.objects room, here, le-ltb max_bonus _ low)
 
   pub object_over : (o : Object) (n : ℕ) → object_of r (word_at r 0 2) ≡ good (object o, n) → 0 < c.last → c.last ≤ 3 → c.objects < max_objects
-      → max_bonus < c.bonus + kind_bonus o.kind → record_of r c ≡ refused 7
+      → max_bonus < c.bonus + kind_bonus o.kind → record_of r c ≡ refused BONUS
   unfolding record_of ◌>>=◌ ◌>>◌ refuse◌when◌
   object_over o n e begun order room high =
       let is = third r (word_at r 0 2) (object o, n) e in
@@ -132,9 +131,9 @@ found_play r c f e p = rank_play (word_at r 0 2) (sym (found_placed r c f e) ∙
 pub object_long : (r : List ℕ) (m : ℕ) → All (λ f. circle_size ≤ f.1) (object_of r m)
 unfolding object_of circle_of slider_of spinner_of
 object_long r m =
-    all_pick (eqb m CI) (λ _. all_when 2 _ _ (λ _. all_any _ _ (λ a. that (omega arith)))) (λ _.
-    all_pick (eqb m SL) (λ _. all_when 2 _ _ (λ _. all_any _ _ (λ a. all_when 6 _ _ (λ _. all_when 2 _ _ (λ _. all_any _ _ (λ is. that (omega arith))))))) (λ _.
-    all_pick (eqb m SP) (λ _. all_when 2 _ _ (λ _. all_any _ _ (λ a. all_any _ _ (λ b. that (omega arith))))) (λ _. none)))
+    all_pick (eqb m CI) (λ _. all_when CUT _ _ (λ _. all_any _ _ (λ a. that (omega arith)))) (λ _.
+    all_pick (eqb m SL) (λ _. all_when CUT _ _ (λ _. all_any _ _ (λ a. all_when COUNT _ _ (λ _. all_when CUT _ _ (λ _. all_any _ _ (λ is. that (omega arith))))))) (λ _.
+    all_pick (eqb m SP) (λ _. all_when CUT _ _ (λ _. all_any _ _ (λ a. all_any _ _ (λ b. that (omega arith))))) (λ _. none)))
 
 abbrev StartsBehind : List ℕ → Content → Type 0
 StartsBehind r (header s) = Unit
@@ -145,9 +144,9 @@ StartsBehind r (play p) = Unit
 starts-behind : (r : List ℕ) (m : ℕ) → All (λ f. StartsBehind r f.0) (object_of r m)
 unfolding object_of circle_of slider_of spinner_of
 starts-behind r m =
-    all_pick (eqb m CI) (λ _. all_when 2 _ _ (λ _. all_bind _ _ (time_is (word_at r 2 8)) (λ a p. that p))) (λ _.
-    all_pick (eqb m SL) (λ _. all_when 2 _ _ (λ _. all_bind _ _ (time_is (word_at r 2 8)) (λ a p. all_when 6 _ _ (λ _. all_when 2 _ _ (λ _. all_any _ _ (λ is. that p)))))) (λ _.
-    all_pick (eqb m SP) (λ _. all_when 2 _ _ (λ _. all_bind _ _ (time_is (word_at r 2 8)) (λ a p. all_any _ _ (λ b. that p)))) (λ _. none)))
+    all_pick (eqb m CI) (λ _. all_when CUT _ _ (λ _. all_bind _ _ (time_is (word_at r 2 8)) (λ a p. that p))) (λ _.
+    all_pick (eqb m SL) (λ _. all_when CUT _ _ (λ _. all_bind _ _ (time_is (word_at r 2 8)) (λ a p. all_when COUNT _ _ (λ _. all_when CUT _ _ (λ _. all_any _ _ (λ is. that p)))))) (λ _.
+    all_pick (eqb m SP) (λ _. all_when CUT _ _ (λ _. all_bind _ _ (time_is (word_at r 2 8)) (λ a p. all_any _ _ (λ b. that p)))) (λ _. none)))
 
 pub object_start : (r : List ℕ) (m : ℕ) (o : Object) (n : ℕ) → object_of r m ≡ good (object o, n) → o.start ≡ of_bits binary64 (word_at r 2 8)
 object_start r m o n e = all_out (subst (All (λ f. StartsBehind r f.0)) e (starts-behind r m))

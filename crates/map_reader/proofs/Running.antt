@@ -1,28 +1,27 @@
 -- The loop over objects: each turn is one step of the definition, and the sums stay within the bounds of their objects.
+use Rattle.rules.specs.declared.refusal.Rule.{Rule}
 use mathlib.Core.Path.{◌≡◌, refl, sym, ap, ◌∙◌, subst}
 use mathlib.Core.Bool.{Bool, true, false}
 use mathlib.Core.List.{List}
 use Prim.Native.Nat.{ℕ, zero, suc, ◌+◌, ◌-◌, ◌≤◌, ◌<◌}
 use native.Mathlib.Omega.{arith}
-use borrow.Author.Tests.{lt-ltb, le-ltb, ltb-true, ltb-false, ne_eqb}
+use borrow.Author.Tests.{lt-ltb, le-ltb, ltb-true, ltb-false}
 use lib.Dec.{ltb, eqb}
 use lib.ListN.{length, drop, length-drop}
 use Rattle.numbers.specs.Words.{word_at}
 use Rattle.rules.specs.Limits.{max_objects, max_nested, max_bonus, circle_size}
-use Rattle.rules.specs.Refusals.{good, refused, pick}
+use Rattle.rules.specs.Refusals.{good, refused, pick, refusal_at, BONUS, CUT, COUNT}
 use Rattle.rules.proofs.All.{All, none as nothing, that, all_any, all_when, all_pick, all_out}
-use Rattle.rules.proofs.Laws.{never}
 use Rattle.records.specs.Objects.{Object, Kind, circle, slider, spinner, kind_view, kind_bonus}
 use Rattle.records.specs.Records.{Content, object, FoundRecord, CI, SL, SP, circle_of, slider_of, spinner_of, object_of, break, header, play}
 use Rattle.map_file.proofs.Sizes.{Sized, object_sized}
 use Rattle.simulator.specs.Limits.{Within, Counted, nested_count}
-use Rattle.simulator.proofs.Bounds.{fresh-within, within_more, step_within, none-counted, counted_more, step_counted}
+use Rattle.simulator.proofs.Bounds.{fresh-within, step_within, none-counted, step_counted}
 use Rattle.simulator.proofs.Few.{FewIn, object_few, one_more}
-use Rattle.map_reader.specs.Objects.{hit_as, objects_at, stepped, bonus_of, stepped_with, stepped_by, next_of, ran_by, ran_of, Room, Small}
+use Rattle.map_reader.specs.Objects.{hit_as, objects_at, stepped, bonus_of, stepped_with, stepped_by, next_of, ran_by, ran_of, Small}
 use Rattle.map_reader.specs.declared.objects.Objects.{Objects}
 use Rattle.map_reader.specs.declared.objects.Stepped.{Stepped}
 use Rattle.map_reader.specs.declared.objects.Stepped.TheVariants as step
-use Rattle.map_reader.specs.declared.objects.Ran.TheVariants as ran
 use Rattle.map_reader.proofs.Stepping.{walk_legacy}
 
 abbrev pub count_of : Objects → ℕ
@@ -40,34 +39,6 @@ next_short w s x h = rw (lt-ltb _ _ h)
 pub next_long : (w : Bool) (s : List ℕ) (x : Objects) → x.at + circle_size ≤ length s → next_of w s x ≡ stepped_by w x (object_at s x)
 unfolding next_of
 next_long w s x h = rw (le-ltb _ _ h)
-
-pub circle-at : (r : List ℕ) → object_of r CI ≡ circle_of r
-unfolding object_of
-circle-at r = refl
-
-pub slider-at : (r : List ℕ) → object_of r SL ≡ slider_of r
-unfolding object_of
-slider-at r = refl
-
-pub spinner-at : (r : List ℕ) → object_of r SP ≡ spinner_of r
-unfolding object_of
-spinner-at r = refl
-
-pub none-at : (r : List ℕ) (m : ℕ) → (m ≡ CI → ⊥) → (m ≡ SL → ⊥) → (m ≡ SP → ⊥) → object_of r m ≡ refused 3
-unfolding object_of
-none-at r m a b c = rw (ne_eqb m CI a, ne_eqb m SL b, ne_eqb m SP c)
-
--- by the reader of the mark's kind
-pub next_by : (w : Bool) (s : List ℕ) (x : Objects) → x.at + circle_size ≤ length s → (r : List ℕ) → r ≡ drop x.at s → (m : ℕ) → m ≡ word_at r 0 2
-    → (y : FoundRecord) → object_of r m ≡ y → (a : Stepped) → a ≡ stepped_by w x y → a ≡ next_of w s x
-next_by w s x h r e m q y p a k =
-    k
-    ∙ ap (stepped_by w x) (sym p ∙ ap (object_of r) q ∙ ap (λ (l : List ℕ). object_of l (word_at l 0 2)) e)
-    ∙ sym (next_long w s x h)
-
-pub next_none : (w : Bool) (s : List ℕ) (x : Objects) → x.at + circle_size ≤ length s → (r : List ℕ) → r ≡ drop x.at s → (m : ℕ) → m ≡ word_at r 0 2
-    → (m ≡ CI → ⊥) → (m ≡ SL → ⊥) → (m ≡ SP → ⊥) → step.Stop ≡ next_of w s x
-next_none w s x h r e m q a b c = next_by w s x h r e m q (refused 3) (none-at r m a b c) step.Stop refl
 
 -- an object that is taken
 pub record Took (w : Bool) (s : List ℕ) (x y : Objects) : Type 0 where
@@ -88,7 +59,7 @@ pub record Over (w : Bool) (s : List ℕ) (x : Objects) : Type 0 where
 
 pub data Stops (s : List ℕ) (x : Objects) : Type 0 where
   short : length s < x.at + circle_size → Stops s x
-  none : {n : ℕ} → object_at s x ≡ refused n → Stops s x
+  none : {n : Rule} → object_at s x ≡ refused n → Stops s x
 
 -- the three answers
 pub data Answered (w : Bool) (s : List ℕ) (x : Objects) : Stepped → Type 0 where
@@ -103,9 +74,9 @@ data OnlyObject : Content → Type 0 where
 only_object : (r : List ℕ) (m : ℕ) → All (λ f. OnlyObject f.0) (object_of r m)
 unfolding object_of circle_of slider_of spinner_of
 only_object r m =
-    all_pick (eqb m CI) (λ _. all_when 2 _ _ (λ _. all_any _ _ (λ a. that only))) (λ _.
-    all_pick (eqb m SL) (λ _. all_when 2 _ _ (λ _. all_any _ _ (λ a. all_when 6 _ _ (λ _. all_when 2 _ _ (λ _. all_any _ _ (λ is. that only)))))) (λ _.
-    all_pick (eqb m SP) (λ _. all_when 2 _ _ (λ _. all_any _ _ (λ a. all_any _ _ (λ b. that only)))) (λ _. nothing)))
+    all_pick (eqb m CI) (λ _. all_when CUT _ _ (λ _. all_any _ _ (λ a. that only))) (λ _.
+    all_pick (eqb m SL) (λ _. all_when CUT _ _ (λ _. all_any _ _ (λ a. all_when COUNT _ _ (λ _. all_when CUT _ _ (λ _. all_any _ _ (λ is. that only)))))) (λ _.
+    all_pick (eqb m SP) (λ _. all_when CUT _ _ (λ _. all_any _ _ (λ a. all_any _ _ (λ b. that only)))) (λ _. nothing)))
 
 module _ (w : Bool) (s : List ℕ) (x : Objects) (h : x.at + circle_size ≤ length s) where
   with_bonus : (o : Object) (n : ℕ) → object_at s x ≡ good (object o, n) → (b : Bool) → ltb max_bonus (bonus_of x + kind_bonus (hit_as w o.kind)) ≡ b
@@ -151,9 +122,6 @@ hit_few false circle h = h
 hit_few false (slider is) h = h
 hit_few false (spinner d) h = omega arith
 
-pub small_room : (s : List ℕ) (x : Objects) → Small s x → count_of x < max_objects → Room x
-small_room s x k h = (within_more _ _ _ (omega (arith, h)) k.score, counted_more _ _ _ (omega (arith, h)) k.nested, k.bonus)
-
 module _ {w : Bool} {s : List ℕ} {x y : Objects} (k : Took w s x y) where
   few : nested_count (kind_view k.o.kind) ≤ max_nested
   few = all_out (subst (All (λ f. FewIn f.0)) k.found (object_few (drop x.at s) (word_at (drop x.at s) 0 2)))
@@ -187,45 +155,39 @@ pub ran_next : (w : Bool) (n : ℕ) (s : List ℕ) (x y : Objects) → step.Next
 unfolding ran_of
 ran_next w n s x y e = ap (λ (a : Stepped). ran_by x a (λ z. ran_of w n s z)) (sym e)
 
-pub ran_stop : (w : Bool) (n : ℕ) (s : List ℕ) (x : Objects) → step.Stop ≡ next_of w s x → ran.To x ≡ ran_of w n s x
+pub ran_stop : (w : Bool) (n : ℕ) (s : List ℕ) (x : Objects) → step.Stop ≡ next_of w s x → good x ≡ ran_of w n s x
 unfolding ran_of
 ran_stop w zero s x e = refl
 ran_stop w (suc n) s x e = ap (λ (a : Stepped). ran_by x a (λ z. ran_of w n s z)) e
 
-pub ran_over : (w : Bool) (n : ℕ) (s : List ℕ) (x : Objects) → 0 < n → step.OverBonus ≡ next_of w s x → ran.OverBonus x.at ≡ ran_of w n s x
+pub ran_over : (w : Bool) (n : ℕ) (s : List ℕ) (x : Objects) → 0 < n → step.OverBonus ≡ next_of w s x → refused (refusal_at BONUS x.at) ≡ ran_of w n s x
 unfolding ran_of
-ran_over w zero s x h e = never (omega (arith, h))
+ran_over w zero s x h e = absurd (omega (arith, h))
 ran_over w (suc n) s x h e = ap (λ (a : Stepped). ran_by x a (λ z. ran_of w n s z)) e
 
-pub ran_none : (w : Bool) (n : ℕ) (s : List ℕ) (x : Objects) → n ≡ 0 → ran.To x ≡ ran_of w n s x
+pub ran_none : (w : Bool) (n : ℕ) (s : List ℕ) (x : Objects) → n ≡ 0 → good x ≡ ran_of w n s x
 unfolding ran_of
 ran_none w n s x e = rw e
 
-pub small_ran : (w : Bool) (n : ℕ) (s : List ℕ) (x y : Objects) → Small s x → count_of x + n ≤ max_objects → ran.To y ≡ ran_of w n s x → Small s y
+pub small_ran : (w : Bool) (n : ℕ) (s : List ℕ) (x y : Objects) → Small s x → count_of x + n ≤ max_objects → good y ≡ ran_of w n s x → Small s y
 unfolding ran_of
 small_ran w zero s x y k h e = let same : x ≡ y = cc in subst (Small s) same k
 small_ran w (suc n) s x y k h e = go (λ z m l q. small_ran w n s z y m l q) (next_of w s x) refl (answered w s x)
   where
-    go : ((z : Objects) → Small s z → count_of z + n ≤ max_objects → ran.To y ≡ ran_of w n s z → Small s y) → (a : Stepped) → next_of w s x ≡ a → Answered w s x a → Small s y
+    go : ((z : Objects) → Small s z → count_of z + n ≤ max_objects → good y ≡ ran_of w n s z → Small s y) → (a : Stepped) → next_of w s x ≡ a → Answered w s x a → Small s y
     go more (step.Next z) q (took t) =
         let count = took_count t in
         more z (took_small t k (omega (arith, h))) (omega (arith, h, count)) (e ∙ ran_next w n s x z (sym q))
-    go more step.Stop q (stop m) = let same : ran.To x ≡ ran.To y = ran_stop w (suc n) s x (sym q) ∙ sym e in (let z : x ≡ y = cc in subst (Small s) z k)
-    go more step.OverBonus q (over m) = let z : ran.To y ≡ ran.OverBonus x.at = e ∙ sym (ran_over w (suc n) s x (omega arith) (sym q)) in never (cc)
+    go more step.Stop q (stop m) = let same : good x ≡ good y = ran_stop w (suc n) s x (sym q) ∙ sym e in (let z : x ≡ y = cc in subst (Small s) z k)
+    go more step.OverBonus q (over m) = let z : good y ≡ refused (refusal_at BONUS x.at) = e ∙ sym (ran_over w (suc n) s x (omega arith) (sym q)) in cc
 
 -- ---- the loop's invariant
 pub record Running (w : Bool) (s : List ℕ) (limit : ℕ) (from x : Objects) : Type 0 where
   pub same : ran_of w (limit - count_of from) s from ≡ ran_of w (limit - count_of x) s x
   pub small : Small s x
 
-pub running_start : (w : Bool) (s : List ℕ) (limit : ℕ) (from : Objects) → Small s from → Running w s limit from from
-running_start w s limit from k = record { same = refl; small = k }
-
 module _ {w : Bool} {s : List ℕ} {limit : ℕ} {from x : Objects} (k : Running w s limit from x) where
   module _ (most : limit ≤ max_objects) (h : count_of x < limit) where
-    pub running_room : Room x × (x.at ≤ length s)
-    running_room = (small_room s x k.small (omega (arith, h, most)), k.small.inside)
-
     module _ (y : Objects) (e : step.Next y ≡ next_of w s x) where
       pub running_less : limit - count_of y < limit - count_of x
       running_less = let count = took_count (next_took w s x y e) in omega (arith, count, h)
@@ -240,11 +202,11 @@ module _ {w : Bool} {s : List ℕ} {limit : ℕ} {from x : Objects} (k : Running
             small = took_small t k.small (omega (arith, h, most));
           }
 
-    pub running_over : step.OverBonus ≡ next_of w s x → ran.OverBonus x.at ≡ ran_of w (limit - count_of from) s from
+    pub running_over : step.OverBonus ≡ next_of w s x → refused (refusal_at BONUS x.at) ≡ ran_of w (limit - count_of from) s from
     running_over e = ran_over w (limit - count_of x) s x (omega (arith, h)) e ∙ sym k.same
 
-  pub running_stop : step.Stop ≡ next_of w s x → ran.To x ≡ ran_of w (limit - count_of from) s from
+  pub running_stop : step.Stop ≡ next_of w s x → good x ≡ ran_of w (limit - count_of from) s from
   running_stop e = ran_stop w (limit - count_of x) s x e ∙ sym k.same
 
-  pub running_end : limit ≤ count_of x → ran.To x ≡ ran_of w (limit - count_of from) s from
+  pub running_end : limit ≤ count_of x → good x ≡ ran_of w (limit - count_of from) s from
   running_end h = ran_none w (limit - count_of x) s x (omega (arith, h)) ∙ sym k.same

@@ -1,122 +1,41 @@
--- One object: what the code read is the object that the definition finds, and the state goes the definition's step.
+-- One object: by what the code read, the state goes the step of the object that the definition finds.
 use mathlib.Core.Path.{◌≡◌, refl, sym, ap, ◌∙◌, subst}
 use mathlib.Core.Bool.{Bool, true, false}
-use mathlib.Core.List.{List, []}
-use Prim.Native.Nat.{ℕ, ◌+◌, ◌≤◌, ◌<◌}
+use mathlib.Core.List.{List}
+use Prim.Native.Nat.{ℕ, ◌+◌, ◌≤◌}
 use native.Mathlib.Omega.{arith}
-use borrow.Author.Tests.{lt-ltb, le-ltb}
-use lib.Dec.{ltb}
-use lib.Ieee.{Float}
 use lib.ListN.{length}
+use lib.Ieee.{Float}
 use Rattle.numbers.specs.Floats.{whole}
-use Rattle.rules.specs.Limits.{max_nested, max_bonus}
-use Rattle.rules.specs.Refusals.{good, refused, pick}
-use Rattle.records.specs.Objects.{Item, Object, Kind, circle, slider, spinner, slider_view, kind_view, object_view, kind_bonus}
-use Rattle.records.specs.Records.{Content, object, FoundRecord, content_view, record_read, circle_of, slider_of, spinner_of, object_of, break, header, play}
+use Rattle.rules.specs.Limits.{max_nested}
+use Rattle.rules.specs.Refusals.{good, refused, CUT, COUNT, Checked}
+use Rattle.records.specs.Objects.{Object, Kind, circle, slider, spinner, kind_view, object_view, kind_bonus}
+use Rattle.records.specs.Records.{Content, object, FoundRecord, record_read, circle_of, slider_of, spinner_of, object_of, CI, SL, SP, break, header, play}
 use Rattle.records.specs.declared.hit_object.Slider.{Slider}
 use Rattle.records.specs.declared.hit_object.HitObject.{HitObject}
 use Rattle.records.specs.declared.hit_object.HitObjectKind.{HitObjectKind}
 use Rattle.records.specs.declared.hit_object.HitObjectKind.TheVariants as kind
 use Rattle.records.specs.declared.record.Record.{Record}
 use Rattle.records.specs.declared.record.Record.TheVariants as record_case
-use Rattle.records.specs.declared.record.Read.TheVariants as read
 use Rattle.rules.proofs.All.{All, that, all_any, all_when, all_out}
-use Rattle.rules.proofs.Laws.{never}
-use Rattle.map_file.proofs.Sizes.{object_sized}
-use Rattle.map_file.proofs.Steps.{read_size}
+use Rattle.map_file.proofs.Sizes.{Sized, object_sized}
 use Rattle.simulator.specs.Hits.{hits_of}
 use Rattle.simulator.specs.Walk.{State, walk}
-use Rattle.simulator.specs.Nested.{counted}
 use Rattle.simulator.specs.Limits.{nested_count}
 use Rattle.simulator.specs.View.{kind_of}
-use Rattle.simulator.specs.declared.legacy_score.NestedScorePerObject.{NestedScorePerObject}
 use Rattle.simulator.proofs.Few.{FewIn, object_few}
 use Rattle.simulator.proofs.Objects.{walk_kept, counted_kept, walk-circle, walk-slider, walk-spinner}
-use Rattle.map_reader.specs.Objects.{hit_as, bonus_of, stepped_with, stepped_by}
+use Rattle.map_reader.specs.Objects.{hit_as, stepped_with, stepped_by}
 use Rattle.map_reader.specs.declared.objects.Objects.{Objects}
+use Rattle.map_reader.specs.declared.objects.Stepped.{Stepped}
 use Rattle.map_reader.specs.declared.objects.Stepped.TheVariants as step
 
--- ---- the kind of what each record is read as
-pub data IsCircle : Kind → Type 0 where
-  a_circle : IsCircle circle
-
-pub data IsSlider : Kind → Type 0 where
-  a_slider : {is : List Item} → IsSlider (slider is)
-
-pub data IsSpinner : Kind → Type 0 where
-  a_spinner : {d : Float} → IsSpinner (spinner d)
-
-abbrev pub items_in : Kind → Slider
-items_in circle = slider_view []
-items_in (slider is) = slider_view is
-items_in (spinner d) = slider_view []
-
-abbrev pub duration_in : Kind → Float
-duration_in circle = whole 0
-duration_in (slider is) = whole 0
-duration_in (spinner d) = d
-
-data KindIn (K : Kind → Type 0) : Content → Type 0 where
-  of : {o : Object} → K o.kind → KindIn K (object o)
-
-circle_kind : (r : List ℕ) → All (λ f. KindIn IsCircle f.0) (circle_of r)
-unfolding circle_of
-circle_kind r = all_when 2 _ _ (λ _. all_any _ _ (λ a. that (of a_circle)))
-
-slider_kind : (r : List ℕ) → All (λ f. KindIn IsSlider f.0) (slider_of r)
-unfolding slider_of
-slider_kind r = all_when 2 _ _ (λ _. all_any _ _ (λ a. all_when 6 _ _ (λ _. all_when 2 _ _ (λ _. all_any _ _ (λ is. that (of a_slider))))))
-
-spinner_kind : (r : List ℕ) → All (λ f. KindIn IsSpinner f.0) (spinner_of r)
-unfolding spinner_of
-spinner_kind r = all_when 2 _ _ (λ _. all_any _ _ (λ a. all_any _ _ (λ b. that (of a_spinner))))
-
--- ---- what was read
-pub record ObjectRead (K : Kind → Type 0) (x : FoundRecord) (item : Record) (n : ℕ) : Type 0 where
-  pub o : Object
-  pub is : x ≡ good (object o, n)
-  pub item_is : item ≡ record_case.Object (object_view o)
-  pub kind : K o.kind
-
-object_read : (K : Kind → Type 0) (x : FoundRecord) (item : Record) (n : ℕ) → All (λ f. KindIn K f.0) x → read.Good item n ≡ record_read x → ObjectRead K x item n
-object_read K (refused m) item n a e = never (cc)
-object_read K (good f) item n a e = go f.0 f.1 refl (all_out a) (cc)
-  where
-    go : (y : Content) (k : ℕ) → f ≡ (y, k) → KindIn K y → read.Good item n ≡ read.Good (content_view y) k → ObjectRead K (good f) item n
-    go (object o) k p (of h) e =
-        let i : n ≡ k = cc in
-        let v : item ≡ record_case.Object (object_view o) = cc in
-        record { o = o; is = ap good (p ∙ ap (λ (l : ℕ). (object o, l)) (sym i)); item_is = v; kind = h }
-    go (header _) k p x7 e = elim x7 [ ]
-    go (break _) k p x8 e = elim x8 [ ]
-    go (play _) k p x9 e = elim x9 [ ]
-
-pub circle_read : (r : List ℕ) (item : Record) (n : ℕ) → read.Good item n ≡ record_read (circle_of r) → ObjectRead IsCircle (circle_of r) item n
-circle_read r item n e = object_read IsCircle (circle_of r) item n (circle_kind r) e
-
-pub slider_read : (r : List ℕ) (item : Record) (n : ℕ) → read.Good item n ≡ record_read (slider_of r) → ObjectRead IsSlider (slider_of r) item n
-slider_read r item n e = object_read IsSlider (slider_of r) item n (slider_kind r) e
-
-pub spinner_read : (r : List ℕ) (item : Record) (n : ℕ) → read.Good item n ≡ record_read (spinner_of r) → ObjectRead IsSpinner (spinner_of r) item n
-spinner_read r item n e = object_read IsSpinner (spinner_of r) item n (spinner_kind r) e
-
--- a refused record ends the run
-pub stops : (w : Bool) (x : Objects) (y : FoundRecord) (n : ℕ) → read.Refused n ≡ record_read y → step.Stop ≡ stepped_by w x y
-stops w x (refused m) n e = refl
-stops w x (good f) n e = never (cc)
-
--- its size and its nested items
-module _ (r : List ℕ) (m : ℕ) (item : Record) (n : ℕ) (e : read.Good item n ≡ record_read (object_of r m)) where
-  pub read_within : n ≤ length r
-  read_within = (read_size (object_of r m) item n e r (object_sized r m)).1
-
-  pub read_few : {K : Kind → Type 0} → ObjectRead K (object_of r m) item n → (obj : HitObject) → item ≡ record_case.Object obj → nested_count obj.kind ≤ max_nested
-  read_few k obj i =
-      let e = k.item_is in
-      let v : object_view k.o ≡ obj = cc in
-      subst (λ (x : HitObject). nested_count x.kind ≤ max_nested) v (all_out (subst (All (λ f. FewIn f.0)) k.is (object_few r m)))
-
 -- ---- the step
+pub walk_legacy : (st : State) (k : Kind) → (walk 1 st (hits_of k)).legacy_bonus_score.0 ≡ st.legacy_bonus_score.0 + kind_bonus k
+walk_legacy st circle = ap (λ (x : State). x.legacy_bonus_score.0) (walk-circle 1 st) ∙ omega arith
+walk_legacy st (slider is) = ap (λ (x : State). x.legacy_bonus_score.0) (walk-slider 1 st is) ∙ omega arith
+walk_legacy st (spinner d) = ap (λ (x : State). x.legacy_bonus_score.0) (walk-spinner 1 st d)
+
 -- the order of a slider's items is not kept, whether half spins are walked or not
 hit_kept : (w : Bool) (st : State) (k : Kind) → walk 1 st (hits_of (hit_as w (kind_of (kind_view k)))) ≡ walk 1 st (hits_of (hit_as w k))
 hit_kept true st k = walk_kept 1 st k
@@ -124,95 +43,135 @@ hit_kept false st circle = refl
 hit_kept false st (slider is) = walk_kept 1 st (slider is)
 hit_kept false st (spinner d) = refl
 
-pub walk_legacy : (st : State) (k : Kind) → (walk 1 st (hits_of k)).legacy_bonus_score.0 ≡ st.legacy_bonus_score.0 + kind_bonus k
-walk_legacy st circle = ap (λ (x : State). x.legacy_bonus_score.0) (walk-circle 1 st) ∙ omega arith
-walk_legacy st (slider is) = ap (λ (x : State). x.legacy_bonus_score.0) (walk-slider 1 st is) ∙ omega arith
-walk_legacy st (spinner d) = ap (λ (x : State). x.legacy_bonus_score.0) (walk-spinner 1 st d)
+bonus_kept : (w : Bool) (k : Kind) → kind_bonus (hit_as w (kind_of (kind_view k))) ≡ kind_bonus (hit_as w k)
+bonus_kept true circle = refl
+bonus_kept true (slider is) = refl
+bonus_kept true (spinner d) = refl
+bonus_kept false circle = refl
+bonus_kept false (slider is) = refl
+bonus_kept false (spinner d) = refl
 
-module _ {K : Kind → Type 0} {y : FoundRecord} {item : Record} {n : ℕ} (k : ObjectRead K y item n) (obj : HitObject) (i : item ≡ record_case.Object obj) where
-  pub viewed : obj ≡ object_view k.o
-  viewed = let e = k.item_is in cc
+-- an object as far as the code keeps it
+abbrev kept : HitObject → Object
+kept h = record { start = h.start_time; kind = kind_of h.kind }
 
-  pub kind_is : obj.kind ≡ kind_view k.o.kind
-  kind_is = ap (λ (h : HitObject). h.kind) viewed
+abbrev stepped_record : Bool → Objects → Record → ℕ → Stepped
+stepped_record w x (record_case.Header t) n = step.Stop
+stepped_record w x (record_case.Break b) n = step.Stop
+stepped_record w x (record_case.Object h) n = stepped_with w x (object (kept h)) n
+stepped_record w x (record_case.Play p) n = step.Stop
 
-  module _ (w : Bool) (x : Objects) (kd : HitObjectKind) (j : obj.kind ≡ kd) (sc : State) (p : sc ≡ walk 1 x.score (hits_of (hit_as w (kind_of kd)))) where
-    abbrev hit : Kind
-    hit = hit_as w k.o.kind
+abbrev pub stepped_read : Bool → Objects → Checked (Record × ℕ) → Stepped
+stepped_read w x (refused n) = step.Stop
+stepped_read w x (good r) = stepped_record w x r.0 r.1
 
-    score_is : sc ≡ walk 1 x.score (hits_of hit)
-    score_is = p ∙ ap (λ (h : HitObjectKind). walk 1 x.score (hits_of (hit_as w (kind_of h)))) (sym j ∙ kind_is) ∙ hit_kept w x.score k.o.kind
+object_kept : (w : Bool) (x : Objects) (o : Object) (n : ℕ) → stepped_with w x (object o) n ≡ stepped_with w x (object (kept (object_view o))) n
+object_kept w x o n = rw (bonus_kept w o.kind, hit_kept w x.score o.kind, counted_kept x.nested o.kind)
 
-    -- the bonus that the state then has
-    pub next_bonus : sc.legacy_bonus_score.0 ≡ bonus_of x + kind_bonus hit
-    next_bonus = ap (λ (st : State). st.legacy_bonus_score.0) score_is ∙ walk_legacy x.score hit
+pub step_read : (w : Bool) (x : Objects) (y : FoundRecord) → stepped_by w x y ≡ stepped_read w x (record_read y)
+step_read w x (refused n) = refl
+step_read w x (good (header _, n)) = refl
+step_read w x (good (break _, n)) = refl
+step_read w x (good (object o, n)) = object_kept w x o n
+step_read w x (good (play _, n)) = refl
 
-    pub next_is : (ne : NestedScorePerObject) → ne ≡ counted x.nested (kind_of obj.kind) → bonus_of x + kind_bonus hit ≤ max_bonus
-        → step.Next (record { at = x.at + n; score = sc; nested = ne; last_start = obj.start_time }) ≡ stepped_by w x y
-    next_is ne q low =
-        let b : ne ≡ counted x.nested k.o.kind = q ∙ ap (λ (h : HitObjectKind). counted x.nested (kind_of h)) kind_is ∙ counted_kept x.nested k.o.kind in
-        let c : obj.start_time ≡ k.o.start = ap (λ (h : HitObject). h.start_time) viewed in
-        rw (k.is, le-ltb max_bonus (bonus_of x + kind_bonus hit) low, score_is, b, c)
+-- ---- what each record is read as: an object of its mark's kind, within the input
+abbrev nested_in : HitObjectKind → Slider
+nested_in kind.Circle = record { repeats = 0; ticks = 0 }
+nested_in (kind.Slider s) = s
+nested_in (kind.Spinner s) = record { repeats = 0; ticks = 0 }
 
-    pub over_is : max_bonus < sc.legacy_bonus_score.0 → step.OverBonus ≡ stepped_by w x y
-    over_is h = let e = next_bonus in rw (k.is, lt-ltb max_bonus (bonus_of x + kind_bonus hit) (omega (arith, e, h)))
+abbrev duration_in : HitObjectKind → Float
+duration_in kind.Circle = whole 0
+duration_in (kind.Slider s) = whole 0
+duration_in (kind.Spinner s) = s.duration
 
--- ---- by kind
-pub circle_of_lem : (k : Kind) → IsCircle k → kind_view k ≡ kind.Circle
-circle_of_lem circle a_circle = refl
-circle_of_lem (slider _) x'' = elim x'' [ ]
-circle_of_lem (spinner _) x3 = elim x3 [ ]
+abbrev circle_in : HitObjectKind → HitObjectKind
+circle_in k = kind.Circle
 
-pub circle_free : (k : Kind) → IsCircle k → kind_bonus k ≡ 0
-circle_free circle a_circle = refl
-circle_free (slider _) x'' = elim x'' [ ]
-circle_free (spinner _) x3 = elim x3 [ ]
+abbrev slider_in : HitObjectKind → HitObjectKind
+slider_in k = kind.Slider (nested_in k)
 
-pub slider_of_lem : (k : Kind) → IsSlider k → kind_view k ≡ kind.Slider (items_in k)
-slider_of_lem (slider is) a_slider = refl
-slider_of_lem circle x' = elim x' [ ]
-slider_of_lem (spinner _) x3 = elim x3 [ ]
+abbrev spinner_in : HitObjectKind → HitObjectKind
+spinner_in k = kind.Spinner (record { duration = duration_in k })
 
-pub slider_free : (k : Kind) → IsSlider k → kind_bonus k ≡ 0
-slider_free (slider is) a_slider = refl
-slider_free circle x' = elim x' [ ]
-slider_free (spinner _) x3 = elim x3 [ ]
+abbrev KindBy : (HitObjectKind → HitObjectKind) → Content → Type 0
+KindBy F (header t) = ⊥
+KindBy F (break b) = ⊥
+KindBy F (object o) = kind_view o.kind ≡ F (kind_view o.kind)
+KindBy F (play p) = ⊥
 
-pub spinner_of_lem : (k : Kind) → IsSpinner k → kind_view k ≡ kind.Spinner (record { duration = duration_in k })
-spinner_of_lem (spinner d) a_spinner = refl
-spinner_of_lem circle x' = elim x' [ ]
-spinner_of_lem (slider _) x3 = elim x3 [ ]
+pub record ObjectRead (F : HitObjectKind → HitObjectKind) (r : List ℕ) (h : HitObject) (n : ℕ) : Type 0 where
+  pub inside : n ≤ length r
+  pub few : nested_count h.kind ≤ max_nested
+  pub kind : h.kind ≡ F h.kind
+
+module _ (F : HitObjectKind → HitObjectKind) (r : List ℕ) (h : HitObject) (n : ℕ) where
+  by_found : (y : FoundRecord) → All (λ f. KindBy F f.0) y → All (Sized r) y → All (λ f. FewIn f.0) y → good (record_case.Object h, n) ≡ record_read y → ObjectRead F r h n
+  by_found (refused m) a b c e = cc
+  by_found (good (header _, k)) a b c e = absurd (all_out a)
+  by_found (good (break _, k)) a b c e = absurd (all_out a)
+  by_found (good (play _, k)) a b c e = absurd (all_out a)
+  by_found (good (object o, k)) a b c e =
+      let both : ◌≡◌ {A = Record × ℕ} (record_case.Object h, n) (record_case.Object (object_view o), k) = cc in
+      let i = ap (λ (f : Record × ℕ). f.0) both in
+      let j = ap (λ (f : Record × ℕ). f.1) both in
+      let v : h ≡ object_view o = cc in
+      let m = all_out b in
+      record {
+        inside = omega (arith, j, m.1);
+        few = subst (λ (x : HitObject). nested_count x.kind ≤ max_nested) (sym v) (all_out c);
+        kind = subst (λ (x : HitObject). x.kind ≡ F x.kind) (sym v) (all_out a);
+      }
+
+  by_mark : (m : ℕ) → All (λ f. KindBy F f.0) (object_of r m) → good (record_case.Object h, n) ≡ record_read (object_of r m) → ObjectRead F r h n
+  by_mark m a e = by_found (object_of r m) a (object_sized r m) (object_few r m) e
+
+circle_kind : (r : List ℕ) → All (λ f. KindBy circle_in f.0) (circle_of r)
+unfolding circle_of
+circle_kind r = all_when CUT _ _ (λ _. all_any _ _ (λ a. that refl))
+
+slider_kind : (r : List ℕ) → All (λ f. KindBy slider_in f.0) (slider_of r)
+unfolding slider_of
+slider_kind r = all_when CUT _ _ (λ _. all_any _ _ (λ a. all_when COUNT _ _ (λ _. all_when CUT _ _ (λ _. all_any _ _ (λ is. that refl)))))
+
+spinner_kind : (r : List ℕ) → All (λ f. KindBy spinner_in f.0) (spinner_of r)
+unfolding spinner_of
+spinner_kind r = all_when CUT _ _ (λ _. all_any _ _ (λ a. all_any _ _ (λ b. that refl)))
+
+module _ (r : List ℕ) {item : Record} {h : HitObject} {n : ℕ} (e : item ≡ record_case.Object h) where
+  pub circle_read : good (item, n) ≡ record_read (circle_of r) → ObjectRead circle_in r h n
+  unfolding object_of
+  circle_read k = by_mark circle_in r h n CI (circle_kind r) (rw e at k)
+
+  pub slider_read : good (item, n) ≡ record_read (slider_of r) → ObjectRead slider_in r h n
+  unfolding object_of
+  slider_read k = by_mark slider_in r h n SL (slider_kind r) (rw e at k)
+
+  pub spinner_read : good (item, n) ≡ record_read (spinner_of r) → ObjectRead spinner_in r h n
+  unfolding object_of
+  spinner_read k = by_mark spinner_in r h n SP (spinner_kind r) (rw e at k)
 
 -- ---- a circle or a slider steps the state the same, whether half spins are walked or not
-hit-circle : (w : Bool) (k : Kind) → IsCircle k → k ≡ hit_as w k
-hit-circle true circle a_circle = refl
-hit-circle false circle a_circle = refl
-hit-circle false (slider _) x3 = elim x3 [ ]
-hit-circle false (spinner _) x4 = elim x4 [ ]
-hit-circle true (slider _) x4 = elim x4 [ ]
-hit-circle true (spinner _) x5 = elim x5 [ ]
+abbrev Unspun : Content → Type 0
+Unspun (header t) = Unit
+Unspun (break b) = Unit
+Unspun (object o) = hit_as false o.kind ≡ o.kind
+Unspun (play p) = Unit
 
-hit-slider : (w : Bool) (k : Kind) → IsSlider k → k ≡ hit_as w k
-hit-slider true (slider is) a_slider = refl
-hit-slider false (slider is) a_slider = refl
-hit-slider false circle x'' = elim x'' [ ]
-hit-slider false (spinner _) x4 = elim x4 [ ]
-hit-slider true circle x3 = elim x3 [ ]
-hit-slider true (spinner _) x5 = elim x5 [ ]
+either_found : (w : Bool) (x : Objects) (y : FoundRecord) → All (λ f. Unspun f.0) y → stepped_by true x y ≡ stepped_by w x y
+either_found true x y a = refl
+either_found false x (refused n) a = refl
+either_found false x (good (header _, n)) a = refl
+either_found false x (good (break _, n)) a = refl
+either_found false x (good (object o, n)) a = rw (all_out a)
+either_found false x (good (play _, n)) a = refl
 
-stepped_either : (w : Bool) (K : Kind → Type 0) → ((k : Kind) → K k → k ≡ hit_as w k) → (x : Objects) (y : FoundRecord) → All (λ f. KindIn K f.0) y → stepped_by true x y ≡ stepped_by w x y
-stepped_either w K h x (refused n) a = refl
-stepped_either w K h x (good f) a = go f.0 (all_out a)
-  where
-    go : (c : Content) → KindIn K c → stepped_with true x c f.1 ≡ stepped_with w x c f.1
-    go (object o) (of q) =
-        ap (λ (k : Kind). pick (ltb max_bonus (bonus_of x + kind_bonus k)) step.OverBonus (step.Next (record { at = x.at + f.1; score = walk 1 x.score (hits_of k); nested = counted x.nested o.kind; last_start = o.start }))) (h o.kind q)
-    go (header _) x4 = elim x4 [ ]
-    go (break _) x5 = elim x5 [ ]
-    go (play _) x6 = elim x6 [ ]
+module _ (w : Bool) (x : Objects) (r : List ℕ) where
+  pub circle_either : stepped_by true x (circle_of r) ≡ stepped_by w x (circle_of r)
+  unfolding circle_of
+  circle_either = either_found w x (circle_of r) (all_when CUT _ _ (λ _. all_any _ _ (λ a. that refl)))
 
-pub circle_either : (w : Bool) (x : Objects) (r : List ℕ) → stepped_by true x (circle_of r) ≡ stepped_by w x (circle_of r)
-circle_either w x r = stepped_either w IsCircle (hit-circle w) x (circle_of r) (circle_kind r)
-
-pub slider_either : (w : Bool) (x : Objects) (r : List ℕ) → stepped_by true x (slider_of r) ≡ stepped_by w x (slider_of r)
-slider_either w x r = stepped_either w IsSlider (hit-slider w) x (slider_of r) (slider_kind r)
+  pub slider_either : stepped_by true x (slider_of r) ≡ stepped_by w x (slider_of r)
+  unfolding slider_of
+  slider_either = either_found w x (slider_of r) (all_when CUT _ _ (λ _. all_any _ _ (λ a. all_when COUNT _ _ (λ _. all_when CUT _ _ (λ _. all_any _ _ (λ is. that refl))))))

@@ -5,7 +5,8 @@ use Rattle.std.specs.Float.Ieee.{of_bits}
 use Rattle.numbers.specs.Floats.{whole}
 use Rattle.numbers.specs.Words.{word_at}
 use Rattle.rules.specs.Limits.{max_objects, max_breaks, header_size, break_size, circle_size}
-use Rattle.rules.specs.Refusals.{good, refused, pick, MARK, BONUS}
+use Rattle.rules.specs.Refusals.{good, refused, pick, MARK, Checked, OrRefusal, refusal_at}
+use Rattle.rules.specs.declared.refusal.Rule.{Rule}
 use Rattle.records.specs.Objects.{Object}
 use Rattle.records.specs.Records.{Content, header, break, object, play, FoundRecord, break_of, object_of}
 use Rattle.records.specs.declared.beatmap.Settings.{Settings}
@@ -19,34 +20,26 @@ use Rattle.simulator.specs.Walk.{fresh, after}
 use Rattle.simulator.specs.Nested.{no_object, counted_all}
 use Rattle.map_reader.specs.Objects.{objects_at, stepped, bonus_of, ran_of}
 use Rattle.map_reader.specs.declared.objects.Objects.{Objects}
-use Rattle.map_reader.specs.declared.objects.Ran.{Ran}
-use Rattle.map_reader.specs.declared.objects.Ran.TheVariants as ran
 use Rattle.map_reader.specs.declared.map.Map.{Map}
-use Rattle.map_reader.specs.declared.map.MapRead.{MapRead}
-use Rattle.map_reader.specs.declared.map.MapRead.TheVariants as read
-use Rattle.map_reader.specs.declared.map.Head.{Head}
-use Rattle.map_reader.specs.declared.map.Head.TheVariants as head
-use Rattle.map_reader.specs.declared.map.Stop.{Stop}
-use Rattle.map_reader.specs.declared.map.Stop.TheVariants as stop
 
 -- ---- what the code reads, in its order
 -- the objects begin behind the header and the breaks
 abbrev pub objects_from : ℕ → ℕ
 objects_from breaks = header_size + breaks * break_size
 
-abbrev pub head_with : Content → Head
-head_with (header t) = head.Is t
-head_with (break b) = head.Refused MARK
-head_with (object o) = head.Refused MARK
-head_with (play p) = head.Refused MARK
+abbrev pub head_with : Content → Checked Settings
+head_with (header t) = good t
+head_with (break b) = refused MARK
+head_with (object o) = refused MARK
+head_with (play p) = refused MARK
 
-abbrev pub head_of : FoundRecord → Head
-head_of (refused n) = head.Refused n
+abbrev pub head_of : FoundRecord → Checked Settings
+head_of (refused n) = refused n
 head_of (good f) = head_with f.0
 
 -- "or the input is empty"
-unfoldable pub head_in : List ℕ → Head
-head_in s = pick (eqb (length s) 0) (head.Refused MARK) (head_of (record_of s fresh_of.counts))
+unfoldable pub head_in : List ℕ → Checked Settings
+head_in s = pick (eqb (length s) 0) (refused MARK) (head_of (record_of s fresh_of.counts))
 
 abbrev pub is_good : FoundRecord → Bool
 is_good (refused n) = false
@@ -84,13 +77,14 @@ reader_behind t breaks x = record {
   };
 }
 
-abbrev pub stop_of : FoundRecord → Stop
-stop_of (refused n) = stop.Refused n
-stop_of (good f) = stop.Ends
+abbrev pub end_of : FoundRecord → Checked (Unit {0})
+end_of (refused n) = refused n
+end_of (good f) = good tt
 
-unfoldable pub stop_in : List ℕ → Reader → Stop
-stop_in s reader = pick (leb (length s) reader.at) stop.Ends
-    (pick (eqb (word_at (drop reader.at s) 0 2) PL) stop.Ends (stop_of (record_of (drop reader.at s) reader.counts)))
+-- behind a map stand its plays or nothing, else a record that is refused
+unfoldable pub end_in : List ℕ → Reader → Checked (Unit {0})
+end_in s reader = pick (leb (length s) reader.at) (good tt)
+    (pick (eqb (word_at (drop reader.at s) 0 2) PL) (good tt) (end_of (record_of (drop reader.at s) reader.counts)))
 
 abbrev pub map_at : List ℕ → Settings → ℕ → Objects → Objects → Map
 map_at s t breaks passed all = record {
@@ -102,21 +96,21 @@ map_at s t breaks passed all = record {
   passed = passed;
 }
 
-abbrev pub map_stopped : List ℕ → Settings → ℕ → Objects → Objects → Stop → MapRead
-map_stopped s t breaks passed all (stop.Refused n) = read.Refused n all.at
-map_stopped s t breaks passed all stop.Ends = read.Map (map_at s t breaks passed all)
+abbrev pub map_ended : List ℕ → Settings → ℕ → Objects → Objects → Checked (Unit {0}) → OrRefusal Map
+map_ended s t breaks passed all (refused n) = refused (refusal_at n all.at)
+map_ended s t breaks passed all (good _) = good (map_at s t breaks passed all)
 
-abbrev pub map_to : List ℕ → Settings → ℕ → Objects → Objects → MapRead
-map_to s t breaks passed all = map_stopped s t breaks passed all (stop_in s (reader_behind t breaks all))
+abbrev pub map_to : List ℕ → Settings → ℕ → Objects → Objects → OrRefusal Map
+map_to s t breaks passed all = map_ended s t breaks passed all (end_in s (reader_behind t breaks all))
 
-abbrev pub then_read : (Objects → MapRead) → Ran → MapRead
-then_read go (ran.OverBonus at) = read.Refused BONUS at
-then_read go (ran.To x) = go x
+abbrev pub then_read : (Objects → OrRefusal Map) → OrRefusal Objects → OrRefusal Map
+then_read go (refused r) = refused r
+then_read go (good x) = go x
 
-abbrev pub rest_of : List ℕ → Settings → ℕ → Objects → MapRead
+abbrev pub rest_of : List ℕ → Settings → ℕ → Objects → OrRefusal Map
 rest_of s t breaks passed = then_read (map_to s t breaks passed) (ran_of true (max_objects - passed.nested.object_count) s passed)
 
-abbrev pub objects_of : List ℕ → Settings → ℕ → ℕ → MapRead
+abbrev pub objects_of : List ℕ → Settings → ℕ → ℕ → OrRefusal Map
 objects_of s t breaks p = then_read (rest_of s t breaks) (ran_of true (min p max_objects) s (objects_at (objects_from breaks)))
 
 -- ---- what that says of the file
@@ -126,8 +120,8 @@ pub record StateOf (os : List Object) (x : Objects) : Type 0 where
   pub nested : x.nested ≡ counted_all no_object os
   pub last : x.last_start ≡ start_of os (length os - 1)
 
-pub data RanTo (os : List Object) : Ran → Type 0 where
-  to : {x : Objects} → StateOf os x → RanTo os (ran.To x)
+pub data RanTo (os : List Object) : OrRefusal Objects → Type 0 where
+  to : {x : Objects} → StateOf os x → RanTo os (good x)
 
 -- behind a map stands a play's mark or nothing
 pub data Behind (s : List ℕ) (at : ℕ) : Type 0 where
@@ -137,12 +131,12 @@ pub data Behind (s : List ℕ) (at : ℕ) : Type 0 where
 -- the object behind n others: where it stands and what is read there
 pub record NextIs (s : List ℕ) (from : Objects) (os : List Object) (n : ℕ) : Type 0 where
   pub x : Objects
-  pub here : ran.To x ≡ ran_of true n s from
+  pub here : good x ≡ ran_of true n s from
   pub inside : x.at + circle_size ≤ length s
   pub o : Object
   pub size : ℕ
   pub found : object_of (drop x.at s) (word_at (drop x.at s) 0 2) ≡ good (object o, size)
-  pub next : ran.To (stepped true x o size) ≡ ran_of true (n + 1) s from
+  pub next : good (stepped true x o size) ≡ ran_of true (n + 1) s from
   pub more : take (n + 1) os ≡ take n os ++ (o ∷ [])
 
 -- m is the map of the file, with the state behind its first p objects. `states` is for a caller that reads on from a state that it kept, `nexts` for one that reads the objects again.
@@ -162,6 +156,6 @@ pub record MapIs (s : List ℕ) (p : ℕ) (m : Map) : Type 0 where
   pub nexts : (n : ℕ) → n < length file.map.objects → NextIs s (objects_at (objects_from m.breaks)) file.map.objects n
 
 -- the map of a file, or the refusal of the file, with no play before it
-pub data MapReadOf (s : List ℕ) (p : ℕ) : MapRead → Type 0 where
-  is : {m : Map} → MapIs s p m → MapReadOf s p (read.Map m)
-  refuses : {n at : ℕ} {f : File} → file_of s ≡ refused_at n at f → f.plays ≡ [] → MapReadOf s p (read.Refused n at)
+pub data MapReadOf (s : List ℕ) (p : ℕ) : OrRefusal Map → Type 0 where
+  is : {m : Map} → MapIs s p m → MapReadOf s p (good m)
+  refuses : {n : Rule} {at : ℕ} {f : File} → file_of s ≡ refused_at n at f → f.plays ≡ [] → MapReadOf s p (refused (refusal_at n at))

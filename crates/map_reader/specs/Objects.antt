@@ -3,7 +3,7 @@ use Rattle.std.specs.Prelude.{ℕ, zero, suc, ◌+◌, ◌-◌, ◌≤◌, Bool,
 use Rattle.numbers.specs.Floats.{whole}
 use Rattle.numbers.specs.Words.{word_at}
 use Rattle.rules.specs.Limits.{max_objects, max_bonus, circle_size}
-use Rattle.rules.specs.Refusals.{good, refused, pick}
+use Rattle.rules.specs.Refusals.{good, refused, pick, OrRefusal, refusal_at, BONUS}
 use Rattle.records.specs.Objects.{Object, Kind, circle, slider, spinner, kind_bonus}
 use Rattle.records.specs.Records.{Content, header, break, object, play, FoundRecord, object_of}
 use Rattle.simulator.specs.Hits.{hits_of}
@@ -13,8 +13,6 @@ use Rattle.simulator.specs.Limits.{Within, Counted}
 use Rattle.map_reader.specs.declared.objects.Objects.{Objects}
 use Rattle.map_reader.specs.declared.objects.Stepped.{Stepped}
 use Rattle.map_reader.specs.declared.objects.Stepped.TheVariants as step
-use Rattle.map_reader.specs.declared.objects.Ran.{Ran}
-use Rattle.map_reader.specs.declared.objects.Ran.TheVariants as ran
 
 -- before the first object
 abbrev pub objects_at : ℕ → Objects
@@ -56,14 +54,14 @@ unfoldable pub next_of : Bool → List ℕ → Objects → Stepped
 next_of w s x = pick (ltb (length s) (x.at + circle_size)) step.Stop (stepped_by w x (object_of (drop x.at s) (word_at (drop x.at s) 0 2)))
 
 -- what follows a step
-abbrev pub ran_by : Objects → Stepped → (Objects → Ran) → Ran
+abbrev pub ran_by : Objects → Stepped → (Objects → OrRefusal Objects) → OrRefusal Objects
 ran_by x (step.Next y) go = go y
-ran_by x step.Stop go = ran.To x
-ran_by x step.OverBonus go = ran.OverBonus x.at
+ran_by x step.Stop go = good x
+ran_by x step.OverBonus go = refused (refusal_at BONUS x.at)
 
 -- n objects further, or as many as there are
-unfoldable pub ran_of : Bool → ℕ → List ℕ → Objects → Ran
-ran_of w zero s x = ran.To x
+unfoldable pub ran_of : Bool → ℕ → List ℕ → Objects → OrRefusal Objects
+ran_of w zero s x = good x
 ran_of w (suc n) s x = ran_by x (next_of w s x) (λ y. ran_of w n s y)
 
 -- ---- there is room for one object more

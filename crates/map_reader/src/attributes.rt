@@ -19,6 +19,7 @@ fn last_start(map: Map) -> f64
     }
 }
 
+#[tactic(auto, using(ruleset::proofs::Signs::kept), unfolding(crate::specs::Attributes::drain_in))]
 fn drain_in(s: &[u8], map: Map) -> i64
     requires { map.breaks ≤ max_breaks }
     ensures { (result ≡ drain_in s.now map) × (mag result < 2 ^ 53) }
@@ -31,6 +32,7 @@ fn drain_in(s: &[u8], map: Map) -> i64
 }
 
 // Of a map that stands at the begin of s.
+#[tactic(auto, using(ruleset::proofs::Signs::kept, ruleset::proofs::Stars::settings_in_lem))]
 pub fn attributes_of(s: &[u8], map: Map) -> ScoreAttributes
     requires { Complete map }
     ensures { result ≡ attributes_in s.now map }

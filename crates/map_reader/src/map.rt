@@ -3,9 +3,9 @@
 ghost use Rattle.std.specs.Prelude.{◌≡◌, ◌≤◌, length, drop};
 ghost use Rattle.rules.specs.Limits.{max_breaks};
 ghost use Rattle.map_reader.specs.Objects.{Small};
-ghost use Rattle.map_reader.specs.Map.{objects_from, head_in, is_break, breaks_count, first_start_of, rank_behind, reader_behind, stop_in, map_to, rest_of, objects_of, MapReadOf};
+ghost use Rattle.map_reader.specs.Map.{objects_from, head_in, is_break, breaks_count, first_start_of, rank_behind, reader_behind, end_in, map_to, objects_of, MapReadOf};
 
-use crate::objects::{Objects, Ran, run};
+use crate::objects::{Objects, run};
 use map_file::file::{
     BR, BREAK_RANK, Counts, HEADER_RANK, MH, OBJECT_RANK, PL, Reader, read_record,
 };
@@ -15,8 +15,8 @@ use numbers::words::word_at;
 use records::beatmap::{BreakPeriod, Settings};
 use records::hit_object::HitObject;
 use records::map_record;
-use records::record::{Read, Record};
-use rules::refusal;
+use records::record::Record;
+use rules::refusal::{Refusal, Rule};
 
 // What stands in a map, and where it ends; `passed` is the state behind its first objects.
 #[derive(Clone, Copy)]
@@ -29,25 +29,6 @@ pub struct Map {
     pub passed: Objects,
 }
 
-#[derive(Clone, Copy)]
-pub enum MapRead {
-    Map(Map),
-    Refused { number: u8, offset: usize },
-}
-
-#[derive(Clone, Copy)]
-pub enum Head {
-    Is(Settings),
-    Refused(u8),
-}
-
-// Behind a map stand its plays or nothing, else a record that is refused.
-#[derive(Clone, Copy)]
-pub enum Stop {
-    Ends,
-    Refused(u8),
-}
-
 // Where the objects behind so many breaks begin.
 pub fn objects_from(breaks: u64) -> usize
     requires { breaks ≤ max_breaks }
@@ -57,30 +38,27 @@ pub fn objects_from(breaks: u64) -> usize
 }
 
 // The settings that a file starts with.
-fn read_head(s: &[u8]) -> Head
+#[tactic(auto, using(crate::proofs::Heads::head_cut, crate::proofs::Heads::head_marked, crate::proofs::Heads::head_read), unfolding(crate::specs::Map::head_in))]
+fn read_head(s: &[u8]) -> Result<Settings, Rule>
     ensures { result ≡ head_in s.now }
 {
     if s.len() == 0 {
-        return Head::Refused(refusal::MARK);
+        return Err(Rule::Mark);
     }
     if s.len() < 2 {
-        return Head::Refused(refusal::CUT);
+        return Err(Rule::Cut);
     }
     if word_at(s, 0, 2) != MH {
-        return Head::Refused(refusal::MARK);
+        return Err(Rule::Mark);
     }
-    match map_record::read_header(s) {
-        Read::Refused(number) => Head::Refused(number),
-        Read::Good(item, _) => match item {
-            Record::Header(settings) => Head::Is(settings),
-            Record::Break(_) => Head::Refused(refusal::MARK),
-            Record::Object(_) => Head::Refused(refusal::MARK),
-            Record::Play(_) => Head::Refused(refusal::MARK),
-        },
+    match map_record::read_header(s)? {
+        (Record::Header(settings), _) => Ok(settings),
+        (Record::Break(_) | Record::Object(_) | Record::Play(_), _) => Err(Rule::Mark),
     }
 }
 
 // A break with good times stands at an offset.
+#[tactic(auto, using(map_file::proofs::Steps::rest_is, crate::proofs::Heads::good_read), unfolding(crate::specs::Map::is_break))]
 fn is_break(s: &[u8], at: usize) -> bool
     ensures { result ≡ is_break (drop at s.now) }
 {
@@ -91,23 +69,19 @@ fn is_break(s: &[u8], at: usize) -> bool
     if word_at(r, 0, 2) != BR {
         return false;
     }
-    match map_record::read_break(r) {
-        Read::Refused(_) => false,
-        Read::Good(_, _) => true,
-    }
+    map_record::read_break(r).is_ok()
 }
 
+#[tactic(auto, using(crate::proofs::Heads::breaks_stop, crate::proofs::Heads::breaks_next, crate::proofs::Heads::breaks_end))]
 fn count_breaks(s: &[u8]) -> u64
     ensures { (result ≡ breaks_count s.now) × (result ≤ max_breaks) }
 {
-    let mut count: u64 = 0;
-    while count < BreakPeriod::MAX_COUNT {
+    for count in 0..BreakPeriod::MAX_COUNT {
         if !is_break(s, objects_from(count)) {
             return count;
         }
-        count += 1;
     }
-    count
+    BreakPeriod::MAX_COUNT
 }
 
 // Each object has its start at the same place.
@@ -149,76 +123,60 @@ fn reader_behind(settings: Settings, breaks: u64, all: Objects) -> Reader
     }
 }
 
-fn stop_at(s: &[u8], reader: Reader) -> Stop
-    ensures { result ≡ stop_in s.now reader }
+// Behind a map stand its plays or nothing, else a record that is refused.
+#[tactic(auto, using(map_file::proofs::Steps::rest_is, crate::proofs::Heads::ended), unfolding(crate::specs::Map::end_in))]
+fn check_end(s: &[u8], reader: Reader) -> Result<(), Rule>
+    ensures { result ≡ end_in s.now reader }
 {
     let at = reader.at;
     if s.len() <= at {
-        return Stop::Ends;
+        return Ok(());
     }
     if word_at(&s[at..], 0, 2) == PL {
-        return Stop::Ends;
+        return Ok(());
     }
-    match read_record(&s[at..], reader.counts) {
-        Read::Refused(number) => Stop::Refused(number),
-        Read::Good(_, _) => Stop::Ends,
-    }
+    read_record(&s[at..], reader.counts)?;
+    Ok(())
 }
 
 // The map that ends where `all` stands.
-fn map_to(s: &[u8], settings: Settings, breaks: u64, passed: Objects, all: Objects) -> MapRead
+fn map_to(
+    s: &[u8],
+    settings: Settings,
+    breaks: u64,
+    passed: Objects,
+    all: Objects,
+) -> Result<Map, Refusal>
     requires { breaks ≤ max_breaks }
     ensures { result ≡ map_to s.now settings breaks passed all }
 {
-    match stop_at(s, reader_behind(settings, breaks, all)) {
-        Stop::Refused(number) => MapRead::Refused {
-            number,
-            offset: all.at,
-        },
-        Stop::Ends => MapRead::Map(Map {
-            end: all.at,
-            settings,
-            breaks,
-            objects: all.nested.object_count,
-            first_start: first_start(s, breaks, all.nested.object_count),
-            passed,
-        }),
-    }
+    let end = all.at;
+    check_end(s, reader_behind(settings, breaks, all)).map_err(|rule| rule.at(end))?;
+    let objects = all.nested.object_count;
+    Ok(Map {
+        end,
+        settings,
+        breaks,
+        objects,
+        first_start: first_start(s, breaks, objects),
+        passed,
+    })
 }
 
-fn read_rest(s: &[u8], settings: Settings, breaks: u64, passed: Objects) -> MapRead
-    requires { Small s.now passed × (breaks ≤ max_breaks) }
-    ensures { result ≡ rest_of s.now settings breaks passed }
-{
-    match run(s, passed, HitObject::MAX_COUNT, true) {
-        Ran::OverBonus(offset) => MapRead::Refused {
-            number: refusal::BONUS,
-            offset,
-        },
-        Ran::To(all) => map_to(s, settings, breaks, passed, all),
-    }
-}
-
-fn read_objects(s: &[u8], settings: Settings, breaks: u64, passed: u64) -> MapRead
+fn read_objects(s: &[u8], settings: Settings, breaks: u64, passed: u64) -> Result<Map, Refusal>
     requires { (breaks ≤ max_breaks) × (objects_from breaks ≤ length s.now) }
     ensures { result ≡ objects_of s.now settings breaks passed }
 {
     let limit = least(passed, HitObject::MAX_COUNT);
-    match run(s, Objects::new(objects_from(breaks)), limit, true) {
-        Ran::OverBonus(offset) => MapRead::Refused {
-            number: refusal::BONUS,
-            offset,
-        },
-        Ran::To(state) => read_rest(s, settings, breaks, state),
-    }
+    let state = run(s, Objects::new(objects_from(breaks)), limit, true)?;
+    let all = run(s, state, HitObject::MAX_COUNT, true)?;
+    map_to(s, settings, breaks, state, all)
 }
 
 // The map of a file, whatever stands behind it, with the state behind its first `passed` objects.
-pub fn read_passed(s: &[u8], passed: u64) -> MapRead
+pub fn read_passed(s: &[u8], passed: u64) -> Result<Map, Refusal>
     ensures { MapReadOf s.now passed result }
 {
-    match read_head(s) {
-        Head::Refused(number) => MapRead::Refused { number, offset: 0 },
-        Head::Is(settings) => read_objects(s, settings, count_breaks(s), passed),
-    }
+    let settings = read_head(s)?;
+    read_objects(s, settings, count_breaks(s), passed)
 }

@@ -1,9 +1,12 @@
 -- Each mark is the state behind its objects, and a play from a state before it has the attributes of its passed objects.
+use Rattle.rules.specs.Refusals.{OrRefusal, good, refused}
 use mathlib.Core.Path.{◌≡◌, refl, sym, ap, ◌∙◌, subst}
 use mathlib.Core.Bool.{Bool, true, false}
 use mathlib.Core.List.{List}
-use Prim.Native.Nat.{ℕ, ◌+◌, ◌*◌, ◌-◌, ◌≤◌, ◌<◌, min}
-use native.Mathlib.Nat.{div-mul-le_self, lt_of_mul-lt-mul_right, ne_of_lt}
+use Prim.Native.Nat.{ℕ, ◌+◌, ◌*◌, ◌-◌, ◌/◌, ◌≤◌, ◌<◌, min}
+use Rattle.std.specs.Prelude.{◌↔◌}
+use Rattle.std.proofs.Math.Nat.{mul-le-mul_right}
+use native.Mathlib.Nat.{div-mul-le_self, le-div_iff_mul-le, lt_of_mul-lt-mul_right, ne_of_lt}
 use native.Mathlib.Omega.{arith}
 use borrow.Author.Tests.{ltb-true, ltb-false}
 use lib.Dec.{ltb}
@@ -25,8 +28,6 @@ use Rattle.map_reader.specs.Objects.{ran_of, Small}
 use Rattle.map_reader.specs.Attributes.{drain_in, Complete, attributes_in}
 use Rattle.map_reader.specs.Map.{objects_from, StateOf, RanTo, to, MapIs}
 use Rattle.map_reader.specs.declared.objects.Objects.{Objects}
-use Rattle.map_reader.specs.declared.objects.Ran.{Ran}
-use Rattle.map_reader.specs.declared.objects.Ran.TheVariants as ran
 use Rattle.map_reader.specs.declared.map.Map.{Map}
 use Rattle.map_reader.proofs.Running.{count_of, small_start, small_ran, ran_none}
 use Rattle.map_reader.proofs.Files.{chain_standing, state_count}
@@ -34,7 +35,7 @@ use Rattle.map_reader.proofs.Runs.{ran_then, ran_append}
 use Rattle.map_reader.proofs.Bare.{bare, ran_bare}
 use Rattle.map_reader.proofs.Attributed.{limits, complete, attributes_are}
 use Rattle.map_reader.proofs.Passed.{attributes_passed}
-use Rattle.play_score.specs.PlayRules.{exceeds, play_score, scored_of}
+use Rattle.play_score.specs.PlayRules.{exceeds, play_score}
 use Rattle.marks.specs.Marks.{stride_of, IsMap, state_in, state_or, first_of, IsMark, MarksOf, passed_of, mark_before, StateBefore, with_passed, attributes_from, scored_anew, without_bonus}
 use Rattle.marks.specs.declared.Marks.{Marks}
 
@@ -45,9 +46,6 @@ few_marks objects i h = lt_of_mul-lt-mul_right (stride_of objects) {m = i} {n = 
 
 mark_stands : (objects : ℕ) (q : Play) → mark_before objects q * stride_of objects ≤ passed_of objects q
 mark_stands objects q = div-mul-le_self (passed_of objects q) (stride_of objects)
-
-pub mark_few : (objects : ℕ) (q : Play) → mark_before objects q < 128
-mark_few objects q = few_marks objects (mark_before objects q) (let h = mark_stands objects q in omega (arith, h))
 
 -- ---- the objects begin within the file
 chain_breaks : (s : List ℕ) (f : File) → Chain s f → 0 < f.last → f.last ≤ 3 → objects_from (length f.map.breaks) ≤ f.at
@@ -62,15 +60,15 @@ chain_breaks s f (longer {f = g} {r = (object o, n)} c l e) b h =
 chain_breaks s f (longer {f = g} {r = (play p, n)} c l e) b h = absurd (omega (arith, h))
 
 -- ---- the states behind the objects of a map
-state_out : {os : List Object} {x : Objects} → RanTo os (ran.To x) → StateOf os x
+state_out : {os : List Object} {x : Objects} → RanTo os (good x) → StateOf os x
 state_out (to k) = k
 
-data IsTo : Ran → Type 0 where
-  is_to : {x : Objects} → IsTo (ran.To x)
+data IsTo : OrRefusal Objects → Type 0 where
+  is_to : {x : Objects} → IsTo (good x)
 
-ran_is : (x : Objects) (r : Ran) → IsTo r → ran.To (state_in x r) ≡ r
-ran_is x (ran.To y) is_to = refl
-ran_is x (ran.OverBonus _) x3 = elim x3 [ ]
+ran_is : (x : Objects) (r : OrRefusal Objects) → IsTo r → good (state_in x r) ≡ r
+ran_is x (good y) is_to = refl
+ran_is x (refused r) x3 = elim x3 [ ]
 
 -- a state, or what of it is known where no half spin is walked
 abbrev seen : Bool → Objects → Objects
@@ -100,26 +98,26 @@ module _ {s : List ℕ} {m : Map} (w : IsMap s m) where
       small_start s (objects_from m.breaks) (omega (arith, e, from, to))
 
   -- what a run comes to
-  record Reached (b : Bool) (n : ℕ) (r : Ran) : Type 0 where
+  record Reached (b : Bool) (n : ℕ) (r : OrRefusal Objects) : Type 0 where
     y : Objects
     state : StateOf (take n os) y
-    is : r ≡ ran.To (seen b y)
+    is : r ≡ good (seen b y)
 
   reached : (b : Bool) (n : ℕ) → n ≤ m.objects → Reached b n (ran_of b n s (first_of m))
   reached b n h = go b (ran_of true n s (first_of m)) refl (w.is.states n (let most = few_objects in omega (arith, h, most)))
     where
-      go : (b : Bool) (r : Ran) → ran_of true n s (first_of m) ≡ r → RanTo (take n os) r → Reached b n (ran_of b n s (first_of m))
-      go true (ran.To y) e (to k) = record { y = y; state = k; is = e }
-      go false (ran.To y) e (to k) = record { y = y; state = k; is = sym (ran_bare n s (first_of m) y (sym e)) }
-      go false (ran.OverBonus _) e x5 = elim x5 [ ]
-      go true (ran.OverBonus _) e x5 = elim x5 [ ]
+      go : (b : Bool) (r : OrRefusal Objects) → ran_of true n s (first_of m) ≡ r → RanTo (take n os) r → Reached b n (ran_of b n s (first_of m))
+      go true (good y) e (to k) = record { y = y; state = k; is = e }
+      go false (good y) e (to k) = record { y = y; state = k; is = sym (ran_bare n s (first_of m) y (sym e)) }
+      go false (refused r) e x5 = elim x5 [ ]
+      go true (refused r) e x5 = elim x5 [ ]
 
-  module _ (b : Bool) (n : ℕ) (x : Objects) (h : n ≤ m.objects) (e : ran.To x ≡ ran_of b n s (first_of m)) where
+  module _ (b : Bool) (n : ℕ) (x : Objects) (h : n ≤ m.objects) (e : good x ≡ ran_of b n s (first_of m)) where
     abbrev behind : Objects
     behind = (reached b n h).y
 
     behind_is : x ≡ seen b behind
-    behind_is = let z : ran.To x ≡ ran.To (seen b behind) = e ∙ (reached b n h).is in cc
+    behind_is = let z : good x ≡ good (seen b behind) = e ∙ (reached b n h).is in cc
 
     behind_count : count_of x ≡ n
     behind_count = ap count_of behind_is ∙ seen_count b behind ∙ state_count (reached b n h).state ∙ length-take n os ∙ (let z = w.is.objects in omega (arith, h, z))
@@ -128,81 +126,82 @@ module _ {s : List ℕ} {m : Map} (w : IsMap s m) where
     behind_small = small_ran b n s (first_of m) x small_first (let most = few_objects in omega (arith, h, most)) e
 
   -- from one state to a later one
-  behind_later : (b : Bool) (a n : ℕ) (x : Objects) → a ≤ n → n ≤ m.objects → ran.To x ≡ ran_of b a s (first_of m) → ran.To (state_or b s x n) ≡ ran_of b n s (first_of m)
+  behind_later : (b : Bool) (a n : ℕ) (x : Objects) → a ≤ n → n ≤ m.objects → good x ≡ ran_of b a s (first_of m) → good (state_or b s x n) ≡ ran_of b n s (first_of m)
   behind_later b a n x l h e =
       let count = behind_count b a x (omega (arith, l, h)) e in
       let steps : n ≡ a + (n - count_of x) = omega (arith, count, l) in
-      let same : ran_of b n s (first_of m) ≡ ran_of b (n - count_of x) s x = ap (λ (i : ℕ). ran_of b i s (first_of m)) steps ∙ ran_append b a (n - count_of x) s (first_of m) ∙ ap (λ (r : Ran). ran_then r (λ y. ran_of b (n - count_of x) s y)) (sym e) in
+      let same : ran_of b n s (first_of m) ≡ ran_of b (n - count_of x) s x = ap (λ (i : ℕ). ran_of b i s (first_of m)) steps ∙ ran_append b a (n - count_of x) s (first_of m) ∙ ap (λ (r : OrRefusal Objects). ran_then r (λ y. ran_of b (n - count_of x) s y)) (sym e) in
       ran_is x (ran_of b (n - count_of x) s x) (subst IsTo (sym (reached b n h).is ∙ same) is_to) ∙ sym same
 
--- ---- the loop that sets the marks: i marks stand, and the last is a stride before `count`
-pub record Marking (s : List ℕ) (m : Map) (stride : ℕ) (state : Objects) (states : List Objects) (i count : ℕ) : Type 0 where
+-- ---- the loop that sets the marks: i marks stand, and the state is the last of them
+pub record Marking (s : List ℕ) (m : Map) (stride : ℕ) (state : Objects) (states : List Objects) (i : ℕ) : Type 0 where
   pub stride_is : stride ≡ stride_of m.objects
-  pub count_is : count ≡ i * stride
-  pub last : ran.To state ≡ ran_of false (count - stride) s (first_of m)
+  pub last : good state ≡ ran_of false ((i - 1) * stride) s (first_of m)
   pub places : length states ≡ 128
   pub each : (j : ℕ) (d : Objects) → j < i → IsMark s m j (get_or states j d)
 
-pub marking_start : (s : List ℕ) (m : Map) (stride : ℕ) (state : Objects) → stride ≡ stride_of m.objects → state ≡ first_of m
-    → Marking s m stride state (replicate 128 state) 1 stride
+pub marking_start : (s : List ℕ) (m : Map) (stride : ℕ) (state : Objects) → stride ≡ stride_of m.objects → state ≡ first_of m → Marking s m stride state (replicate 128 state) 1
 marking_start s m stride state e z = record {
   stride_is = e;
-  count_is = omega arith;
-  last = at_first (stride - stride) (omega arith);
+  last = at_first ((1 - 1) * stride) (omega arith);
   places = length-replicate 128 state;
-  each = λ j d h. (let none : j ≡ 0 = omega (arith, h) in ap ran.To (get_or-replicate 128 j state d (omega (arith, h))) ∙ at_first (j * stride_of m.objects) (ap (λ (n : ℕ). n * stride_of m.objects) none ∙ omega arith));
+  each = λ j d h. (let none : j ≡ 0 = omega (arith, h) in ap good (get_or-replicate 128 j state d (omega (arith, h))) ∙ at_first (j * stride_of m.objects) (ap (λ (n : ℕ). n * stride_of m.objects) none ∙ omega arith));
 }
   where
-    at_first : (n : ℕ) → n ≡ 0 → ran.To state ≡ ran_of false n s (first_of m)
-    at_first n h = ap ran.To z ∙ ran_none false n s (first_of m) h
+    at_first : (n : ℕ) → n ≡ 0 → good state ≡ ran_of false n s (first_of m)
+    at_first n h = ap good z ∙ ran_none false n s (first_of m) h
 
-module _ {s : List ℕ} {m : Map} {stride : ℕ} {state : Objects} {states : List Objects} {i count : ℕ} (k : Marking s m stride state states i count) where
+module _ {s : List ℕ} {m : Map} {stride : ℕ} {state : Objects} {states : List Objects} {i : ℕ} (k : Marking s m stride state states i) where
+  strides : (j : ℕ) → (j ≤ m.objects / stride) ↔ (j * stride ≤ m.objects)
+  strides j = le-div_iff_mul-le {k = stride} {x = j} {y = m.objects} (let e = k.stride_is in omega (arith, e))
+
   -- all marks that there are stand
-  pub marking_end : m.objects < count → MarksOf s m (record { states = states })
+  pub marking_end : m.objects / stride < i → MarksOf s m (record { states = states })
   marking_end h = record {
     each = λ j d l. (
-        let e = k.stride_is in
-        let c = k.count_is ∙ ap (λ (n : ℕ). i * n) e in
-        k.each j d (lt_of_mul-lt-mul_right (stride_of m.objects) {m = j} {n = i} (omega (arith, h, l, c)))
+        let within = (strides j).1 (subst (λ (n : ℕ). j * n ≤ m.objects) (sym k.stride_is) l) in
+        k.each j d (omega (arith, h, within))
         );
   }
 
-  module _ (w : IsMap s m) (h : count ≤ m.objects) where
+  module _ (w : IsMap s m) (h : i ≤ m.objects / stride) where
+    pub marking_stands : i * stride ≤ m.objects
+    marking_stands = (strides i).0 h
+
     pub marking_place : i < 128
-    marking_place = let e = k.stride_is in let c = k.count_is ∙ ap (λ (n : ℕ). i * n) e in few_marks m.objects i (omega (arith, c, h))
+    marking_place = few_marks m.objects i (subst (λ (n : ℕ). i * n ≤ m.objects) k.stride_is marking_stands)
+
+    before : (i - 1) * stride ≤ i * stride
+    before = mul-le-mul_right {m = i - 1} {n = i} stride (omega arith)
 
     pub marking_small : Small s state
-    marking_small = behind_small w false (count - stride) state (omega (arith, h)) k.last
+    marking_small = behind_small w false ((i - 1) * stride) state (let a = before in let b = marking_stands in omega (arith, a, b)) k.last
 
-    later : ran.To (state_or false s state count) ≡ ran_of false count s (first_of m)
-    later = behind_later w false (count - stride) count state (omega arith) h k.last
-
-    pub marking_next : (x : Objects) → x ≡ state_or false s state count → Marking s m stride x (set states i x) (i + 1) (count + stride)
+    pub marking_next : (x : Objects) → x ≡ state_or false s state (i * stride) → Marking s m stride x (set states i x) (i + 1)
     marking_next x e = record {
       stride_is = k.stride_is;
-      count_is = (let c = k.count_is in omega (arith, c));
-      last = here ∙ ap (λ (n : ℕ). ran_of false n s (first_of m)) (let z : count ≡ count + stride - stride = omega arith in z);
+      last = here ∙ ap (λ (n : ℕ). ran_of false (n * stride) s (first_of m)) (let z : i ≡ i + 1 - 1 = omega arith in z);
       places = length-set states i x ∙ k.places;
       each = λ j d l. go j d l (ltb j i) refl;
     }
       where
-        here : ran.To x ≡ ran_of false count s (first_of m)
-        here = ap ran.To e ∙ later
+        here : good x ≡ ran_of false (i * stride) s (first_of m)
+        here = ap good e ∙ behind_later w false ((i - 1) * stride) (i * stride) state before marking_stands k.last
 
         go : (j : ℕ) (d : Objects) → j < i + 1 → (b : Bool) → ltb j i ≡ b → IsMark s m j (get_or (set states i x) j d)
         go j d l true q =
             let before = ltb-true j i q in
-            ap ran.To (get_or-set_other states i j x d (ne_of_lt before)) ∙ k.each j d before
+            ap good (get_or-set_other states i j x d (ne_of_lt before)) ∙ k.each j d before
         go j d l false q =
             let behind = ltb-false j i q in
             let same : j ≡ i = omega (arith, behind, l) in
             let room = marking_place in
             let size = k.places in
-            let steps : count ≡ j * stride_of m.objects = k.count_is ∙ ap (λ (n : ℕ). i * n) k.stride_is ∙ ap (λ (n : ℕ). n * stride_of m.objects) (sym same) in
-            ap (λ (n : ℕ). ran.To (get_or (set states i x) n d)) same
-            ∙ ap ran.To (get_or-set_same states i x d (omega (arith, room, size)))
+            ap (λ (n : ℕ). good (get_or (set states i x) n d)) same
+            ∙ ap good (get_or-set_same states i x d (omega (arith, room, size)))
             ∙ here
-            ∙ ap (λ (n : ℕ). ran_of false n s (first_of m)) steps
+            ∙ ap (λ (n : ℕ). ran_of false (i * n) s (first_of m)) k.stride_is
+            ∙ ap (λ (n : ℕ). ran_of false (n * stride_of m.objects) s (first_of m)) (sym same)
 
 -- ---- a play from a state before it
 -- from its mark, as the code reads it, whatever stands for a state that is not there
@@ -211,7 +210,7 @@ pub mark_there : {s : List ℕ} {m : Map} {marks : Marks} → MarksOf s m marks 
 mark_there {m = m} {marks = marks} k q i d e = record {
   n = mark_before m.objects q * stride_of m.objects;
   passed = mark_stands m.objects q;
-  is = (let h = mark_stands m.objects q in ap (λ (n : ℕ). ran.To (get_or marks.states n d)) e ∙ k.each (mark_before m.objects q) d (omega (arith, h)));
+  is = (let h = mark_stands m.objects q in ap (λ (n : ℕ). good (get_or marks.states n d)) e ∙ k.each (mark_before m.objects q) d (omega (arith, h)));
 }
 
 -- from the first object
@@ -225,7 +224,7 @@ module _ {s : List ℕ} {p : ℕ} {m : Map} (k : MapIs s p m) (b : Bool) (q : Pl
   abbrev n : ℕ
   n = passed_of m.objects q
 
-  abbrev to_there : ran.To (state_or b s x n) ≡ ran_of b n s (first_of m)
+  abbrev to_there : good (state_or b s x n) ≡ ran_of b n s (first_of m)
   to_there = behind_later is_map b e.n n x e.passed (omega arith) e.is
 
   -- the state behind the play's passed objects, its half spins walked
@@ -279,10 +278,10 @@ module _ {s : List ℕ} {p : ℕ} {m : Map} (k : MapIs s p m) (q : Play) where
   at-passed = score_attributes_at k.file.map q.passed_objects
 
   -- from the first object the play has its score
-  pub anew_is : scored_anew s m q ≡ scored_of (play_score q at-passed)
+  pub anew_is : scored_anew s m q ≡ (play_score q at-passed)
   anew_is =
       let e = first_before true s m q in
-      ap (λ (a : ScoreAttributes). scored_of (play_score q a)) (ap (λ (y : Objects). attributes_in s (with_passed m y)) (there_is k true q (first_of m) e) ∙ attributes_there k true q (first_of m) e)
+      ap (λ (a : ScoreAttributes). (play_score q a)) (ap (λ (y : Objects). attributes_in s (with_passed m y)) (there_is k true q (first_of m) e) ∙ attributes_there k true q (first_of m) e)
 
   -- from a mark all but the bonus of its objects is known
   from_is : (x : Objects) → StateBefore false s m q x → attributes_from false s m x q ≡ without_bonus at-passed

@@ -1,4 +1,5 @@
 -- The states kept at marks, and a play from a state before it.
+use Rattle.rules.specs.Refusals.{Checked, OrRefusal, good, refused}
 use Rattle.std.specs.Prelude.{ℕ, ◌+◌, ◌*◌, ◌-◌, ◌/◌, ◌≤◌, min, ◌≡◌, Bool, true, false, List, get_or}
 use Rattle.numbers.specs.Floats.{whole}
 use Rattle.simulator.specs.declared.attributes.ScoreAttributes.{ScoreAttributes}
@@ -7,11 +8,9 @@ use Rattle.map_reader.specs.Objects.{objects_at, ran_of}
 use Rattle.map_reader.specs.Map.{objects_from, MapIs}
 use Rattle.map_reader.specs.Attributes.{attributes_in}
 use Rattle.map_reader.specs.declared.objects.Objects.{Objects}
-use Rattle.map_reader.specs.declared.objects.Ran.{Ran}
-use Rattle.map_reader.specs.declared.objects.Ran.TheVariants as ran
 use Rattle.map_reader.specs.declared.map.Map.{Map}
-use Rattle.play_score.specs.PlayRules.{play_score, scored_of}
-use Rattle.play_score.specs.declared.Scored.{Scored}
+use Rattle.play_score.specs.PlayRules.{play_score}
+use Rattle.play_score.specs.declared.PlayScore.{PlayScore}
 use Rattle.marks.specs.declared.Marks.{Marks}
 
 abbrev pub stride_of : ℕ → ℕ
@@ -23,9 +22,9 @@ pub record IsMap (s : List ℕ) (m : Map) : Type 0 where
   pub is : MapIs s p m
 
 -- the state that a run came to
-abbrev pub state_in : Objects → Ran → Objects
-state_in from (ran.To x) = x
-state_in from (ran.OverBonus at) = from
+abbrev pub state_in : Objects → OrRefusal Objects → Objects
+state_in from (refused r) = from
+state_in from (good x) = x
 
 abbrev pub state_or : Bool → List ℕ → Objects → ℕ → Objects
 state_or w s from count = state_in from (ran_of w (count - from.nested.object_count) s from)
@@ -36,7 +35,7 @@ first_of m = objects_at (objects_from m.breaks)
 
 -- the state behind i strides of objects, for which no half spin is walked
 abbrev pub IsMark : List ℕ → Map → ℕ → Objects → Type 0
-IsMark s m i x = ran.To x ≡ ran_of false (i * stride_of m.objects) s (first_of m)
+IsMark s m i x = good x ≡ ran_of false (i * stride_of m.objects) s (first_of m)
 
 pub record MarksOf (s : List ℕ) (m : Map) (marks : Marks) : Type 0 where
   pub each : (i : ℕ) (d : Objects) → i * stride_of m.objects ≤ m.objects → IsMark s m i (get_or marks.states i d)
@@ -52,7 +51,7 @@ mark_before objects q = passed_of objects q / stride_of objects
 pub record StateBefore (w : Bool) (s : List ℕ) (m : Map) (q : Play) (x : Objects) : Type 0 where
   pub n : ℕ
   pub passed : n ≤ passed_of m.objects q
-  pub is : ran.To x ≡ ran_of w n s (first_of m)
+  pub is : good x ≡ ran_of w n s (first_of m)
 
 abbrev pub with_passed : Map → Objects → Map
 with_passed m x = record { end = m.end; settings = m.settings; breaks = m.breaks; objects = m.objects; first_start = m.first_start; passed = x }
@@ -61,8 +60,8 @@ with_passed m x = record { end = m.end; settings = m.settings; breaks = m.breaks
 abbrev pub attributes_from : Bool → List ℕ → Map → Objects → Play → ScoreAttributes
 attributes_from w s m x q = attributes_in s (with_passed m (state_or w s x (passed_of m.objects q)))
 
-abbrev pub scored_anew : List ℕ → Map → Play → Scored
-scored_anew s m q = scored_of (play_score q (attributes_from true s m (first_of m) q))
+abbrev pub scored_anew : List ℕ → Map → Play → Checked PlayScore
+scored_anew s m q = play_score q (attributes_from true s m (first_of m) q)
 
 -- attributes of which no bonus is known: 9 and the estimates take none
 abbrev pub without_bonus : ScoreAttributes → ScoreAttributes

@@ -9,10 +9,11 @@ ghost use Rattle.marks.specs.Marks.{stride_of, state_or, IsMap, MarksOf, mark_be
 
 use map_reader::attributes::attributes_of;
 use map_reader::map::{Map, objects_from};
-use map_reader::objects::{Objects, Ran, run};
+use map_reader::objects::{Objects, run};
 use numbers::naturals::least;
-use play_score::{Scored, score_on};
+use play_score::{PlayScore, score_on};
 use play_state::Play;
+use rules::refusal::Rule;
 use simulator::attributes::ScoreAttributes;
 
 // The i-th is behind i strides of objects.
@@ -33,10 +34,7 @@ fn state_at(s: &[u8], from: Objects, count: u64, walks: bool) -> Objects
     requires { Small s.now from × (count ≤ max_objects) }
     ensures { result ≡ state_or walks s.now from count }
 {
-    match run(s, from, count, walks) {
-        Ran::To(state) => state,
-        Ran::OverBonus(_) => from,
-    }
+    run(s, from, count, walks).unwrap_or(from)
 }
 
 pub fn marks_of(s: &[u8], map: Map) -> Marks
@@ -46,13 +44,10 @@ pub fn marks_of(s: &[u8], map: Map) -> Marks
     let stride = stride_of(map.objects);
     let mut state = Objects::new(objects_from(map.breaks));
     let mut states = [state; 128];
-    let mut i = 1;
-    let mut count = stride;
-    while count <= map.objects {
-        state = state_at(s, state, count, false);
+    let count = (map.objects / stride) as usize + 1;
+    for i in 1..count {
+        state = state_at(s, state, i as u64 * stride, false);
         states[i] = state;
-        i += 1;
-        count += stride;
     }
     Marks { states }
 }
@@ -64,31 +59,29 @@ pub fn mark_before(objects: u64, play: Play) -> usize
     (least(play.passed_objects as u64, objects) / stride_of(objects)) as usize
 }
 
+// The attributes of a play's passed objects, from a state before it.
+fn attributes_at(s: &[u8], map: Map, before: Objects, play: Play, walks: bool) -> ScoreAttributes
+    requires { IsMap s.now map × StateBefore walks s.now map play before }
+    ensures { result ≡ attributes_from walks s.now map before play }
+{
+    let count = least(play.passed_objects as u64, map.objects);
+    let passed = state_at(s, before, count, walks);
+    attributes_of(s, Map { passed, ..map })
+}
+
 // The attributes of a play's passed objects without their bonus, from a state before it.
 pub fn attributes_from(s: &[u8], map: Map, before: Objects, play: Play) -> ScoreAttributes
     requires { IsMap s.now map × StateBefore false s.now map play before }
     ensures { result ≡ attributes_from false s.now map before play }
 {
-    let passed = state_at(
-        s,
-        before,
-        least(play.passed_objects as u64, map.objects),
-        false,
-    );
-    attributes_of(s, Map { passed, ..map })
+    attributes_at(s, map, before, play, false)
 }
 
 // A play on a map, from its first object.
-pub fn score_anew(s: &[u8], map: Map, play: Play) -> Scored
+pub fn score_anew(s: &[u8], map: Map, play: Play) -> Result<PlayScore, Rule>
     requires { IsMap s.now map }
     ensures { result ≡ scored_anew s.now map play }
 {
     let first = Objects::new(objects_from(map.breaks));
-    let passed = state_at(
-        s,
-        first,
-        least(play.passed_objects as u64, map.objects),
-        true,
-    );
-    score_on(play, attributes_of(s, Map { passed, ..map }))
+    score_on(play, attributes_at(s, map, first, play, true))
 }

@@ -1,18 +1,14 @@
 -- `OsuLegacyScoreMissCalculator`: the misses that a ScoreV1 score tells of, in the source's order.
-use Rattle.std.specs.Prelude.{ℕ, ◌-◌, ◌*◌, cond, eqb, Float}
+use Rattle.std.specs.Prelude.{ℕ, ◌-◌, ◌*◌, cond, eqb, Float, Option, Some, None}
 use Rattle.std.specs.Float.Ieee.{neg, lt, le}
 use Rattle.numbers.specs.Floats.{whole, ◌⊕◌, ◌⊖◌, ◌⊗◌, ◌⊘◌}
 use Rattle.numbers.specs.MinMax.{max_of, min_of}
 use Rattle.square_root.specs.Roots.{power_of}
-use Rattle.play_state.specs.declared.LegacyTotalScore.{LegacyTotalScore}
-use Rattle.play_state.specs.declared.LegacyTotalScore.TheVariants.{Absent, Present}
 use Rattle.simulator.specs.declared.attributes.OsuDifficultyAttributes.{OsuDifficultyAttributes}
 use Rattle.miss_calc.specs.Counts.{total_hits, imperfect_hits}
 use Rattle.miss_calc.specs.Threshold.{threshold_of, capped_of}
 use Rattle.miss_calc.specs.Multiplier.{score_multiplier_of}
 use Rattle.miss_calc.specs.declared.legacy_score_miss_calc.OsuLegacyScoreMissCalculator.{OsuLegacyScoreMissCalculator}
-use Rattle.miss_calc.specs.declared.legacy_score_miss_calc.MissCount.{MissCount}
-use Rattle.miss_calc.specs.declared.legacy_score_miss_calc.MissCount.TheVariants as misses
 
 abbrev pub Calculator : Type 0
 Calculator = OsuLegacyScoreMissCalculator
@@ -60,6 +56,6 @@ miss_count_of k score =
     cond (le remaining (whole 0)) (maximum_miss_count_of k) (min_of (max_of (expected ⊘ remaining) (whole 1)) (maximum_miss_count_of k))
 
 -- "A play .. without a score has no score-based estimate"
-unfoldable pub score_based_of : Calculator → LegacyTotalScore → MissCount
-score_based_of k Absent = misses.Absent
-score_based_of k (Present score) = misses.Is (cond (eqb k.attrs.max_combo 0) (whole 0) (miss_count_of k score))
+unfoldable pub score_based_of : Calculator → Option ℕ → Option Float
+score_based_of k None = None
+score_based_of k (Some score) = Some (cond (eqb k.attrs.max_combo 0) (whole 0) (miss_count_of k score))

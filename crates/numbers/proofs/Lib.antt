@@ -1,10 +1,10 @@
--- Laws on floats that belong to no one function: tests for a NaN, bounds and intervals through the operations, the order of
+-- Laws on floats that belong to no one function: bounds and intervals through the operations, the order of
 -- bit patterns, and exact whole numbers.
 pub mod Bounds
-pub mod Nan
 pub mod Wholes
 pub mod Order
 pub mod Magnitudes
 pub mod Intervals
 pub mod Within
 pub mod Patterns
+pub mod Literals

@@ -1,45 +1,35 @@
-// Floats by their bits. `f64::from_bits` and `f64::to_bits` are not defined at a NaN, so each function here tests for one first.
+// Floats by their bits. `f64::from_bits` and `f64::to_bits` are not defined at a NaN; the functions here are.
 ghost use Rattle.std.specs.Prelude.{◌≡◌, from_bits, to_bits};
 ghost use Rattle.std.specs.Float.{binary32, binary64};
 ghost use Rattle.numbers.specs.Bits.{parts_of};
+
+use std::num;
 
 // The f64 with these bits. Every NaN pattern gives the one NaN of the definition.
 pub fn f64_from_bits(bits: u64) -> f64
     ensures { result ≡ from_bits binary64 bits }
 {
-    if 0x7ff0_0000_0000_0000 < bits & 0x7fff_ffff_ffff_ffff {
-        0.0 / 0.0
-    } else {
-        f64::from_bits(bits)
-    }
+    num::f64_from_bits_with_nan(bits)
 }
 
 // The bits of x. A NaN gives the pattern that the definition writes, the quiet one with no sign and no payload.
 pub fn f64_to_bits(x: f64) -> u64
     ensures { result ≡ to_bits binary64 x }
 {
-    if x != x {
-        0x7ff8_0000_0000_0000
-    } else {
-        f64::to_bits(x)
-    }
+    num::f64_to_bits_with_nan(x)
 }
 
 pub fn f32_from_bits(bits: u32) -> f32
     ensures { result ≡ from_bits binary32 bits }
 {
-    if 0x7f80_0000 < bits & 0x7fff_ffff {
-        0.0 / 0.0
-    } else {
-        f32::from_bits(bits)
-    }
+    num::f32_from_bits_with_nan(bits)
 }
 
 // The exact widening: the definitions have one type for both formats, so the value is the same.
 pub fn f32_to_f64(x: f32) -> f64
     ensures { result ≡ x }
 {
-    std::num::f32_to_f64_with_nan(x)
+    num::f32_to_f64_with_nan(x)
 }
 
 // A float taken apart. A finite one is significand * 2 ^ exponent of the smallest value, 2 ^ -1074: the significand has 53 digits, or the exponent is 0.

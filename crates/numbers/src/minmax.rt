@@ -1,11 +1,13 @@
 // Rust's f64::max, f64::min and f64::clamp.
+#![tactic(auto, unfolding(crate::specs::MinMax::max_of, crate::specs::MinMax::min_of, crate::specs::MinMax::clamp_of))]
+
 ghost use Rattle.std.specs.Prelude.{◌≡◌};
 ghost use Rattle.numbers.specs.MinMax.{max_of, min_of, clamp_of};
 
 pub fn max(x: f64, y: f64) -> f64
     ensures { result ≡ max_of x y }
 {
-    if x != x {
+    if x.is_nan() {
         y
     } else if x < y {
         y
@@ -17,7 +19,7 @@ pub fn max(x: f64, y: f64) -> f64
 pub fn min(x: f64, y: f64) -> f64
     ensures { result ≡ min_of x y }
 {
-    if x != x {
+    if x.is_nan() {
         y
     } else if y < x {
         y

@@ -48,31 +48,24 @@ fn magnitude(significand: u64, exponent: u64) -> u64
     if exponent >= 1074 {
         return I32_LIMIT;
     }
-    let n = shift_ties_even(significand, 1074 - exponent);
-    if n > I32_LIMIT { I32_LIMIT } else { n }
+    shift_ties_even(significand, 1074 - exponent).min(I32_LIMIT)
 }
 
 fn saturate_i32(negative: bool, n: u64) -> i32
     ensures { result ≡ saturated negative n }
 {
     if negative {
-        if n >= I32_LIMIT {
-            return i32::MIN;
-        }
-        return -(n as i32);
+        -(n.min(I32_LIMIT) as i64) as i32
+    } else {
+        n.min(I32_MAX) as i32
     }
-    if n >= I32_LIMIT {
-        return i32::MAX;
-    }
-    n as i32
 }
 
 // By the parts of x, for an x of any size.
 fn round_parts(x: f64) -> i32
     ensures { result ≡ round_ties_even_i32 x }
 {
-    let parts = split(x);
-    match parts {
+    match split(x) {
         Parts::NotANumber => 0,
         Parts::Infinite { negative } => saturate_i32(negative, I32_LIMIT),
         Parts::Finite {

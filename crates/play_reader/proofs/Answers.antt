@@ -1,4 +1,5 @@
 -- The answers of the calls on a whole file, from its map and the end of its plays.
+use Rattle.rules.specs.Refusals.{good}
 use mathlib.Core.Path.{◌≡◌, sym, ap, ◌∙◌}
 use mathlib.Core.List.{List}
 use Prim.Native.Nat.{ℕ, ◌≤◌}
@@ -19,11 +20,8 @@ use Rattle.map_reader.proofs.Mapping.{chain_rank}
 use Rattle.map_reader.proofs.Attributed.{limits, attributes_are}
 use Rattle.simulator.specs.Attributes.{score_attributes_at}
 use Rattle.simulator.specs.declared.attributes.ScoreAttributes.{ScoreAttributes}
-use Rattle.play_reader.specs.Plays.{Place, first, later, Reached, MapFileOf, all, refuses}
+use Rattle.play_reader.specs.Plays.{Place, first, later, Reached, MapFileOf, all}
 use Rattle.play_reader.specs.View.{last_rank, reader_in, answer_of, simulated_of}
-use Rattle.play_reader.specs.declared.MapFile.TheVariants as map_file
-use Rattle.play_reader.specs.declared.Answer.TheVariants as answer
-use Rattle.play_reader.specs.declared.Simulated.TheVariants as simulated
 use Rattle.play_reader.proofs.Playing.{reached_end, end_is}
 
 module _ {s : List ℕ} {p : ℕ} {m : Map} (k : MapIs s p m) (f : File) (w : Reached k f) (h : length s ≤ f.at) where
@@ -52,20 +50,14 @@ module _ {s : List ℕ} {p : ℕ} {m : Map} (k : MapIs s p m) (f : File) (w : Re
   view_is l = rw (rank_is, all_passed l, k.settings, k.breaks, k.objects, sym (end_is k w h), w.map)
 
 -- 2 ^ 64 - 1 passed objects are all
-pub answers : (s : List ℕ) (m : Map) → MapFileOf s 18446744073709551615 (map_file.Good m) → answer.Map (reader_in (length s) m) ≡ answer_of (file_of s)
+pub answers : (s : List ℕ) (m : Map) → MapFileOf s 18446744073709551615 (good m) → good (reader_in (length s) m) ≡ answer_of (file_of s)
 answers s m (all k f w h) =
     let few = (limits k).few_objects in
-    ap answer.Map (view_is k f w h (omega (arith, few))) ∙ sym (ap answer_of (reached_end k w h))
+    ap good (view_is k f w h (omega (arith, few))) ∙ sym (ap answer_of (reached_end k w h))
 
-pub answers_refused : (s : List ℕ) (p n at : ℕ) → MapFileOf s p (map_file.Refused n at) → answer.Refused n at ≡ answer_of (file_of s)
-answers_refused s p n at (refuses e) = sym (ap answer_of e)
-
-pub simulates : (s : List ℕ) (p : ℕ) (m : Map) (a : ScoreAttributes) → MapFileOf s p (map_file.Good m) → a ≡ attributes_in s m → simulated.Map a ≡ simulated_of (file_of s) p
+pub simulates : (s : List ℕ) (p : ℕ) (m : Map) (a : ScoreAttributes) → MapFileOf s p (good m) → a ≡ attributes_in s m → good a ≡ simulated_of (file_of s) p
 simulates s p m a (all k f w h) e =
-    ap simulated.Map (e ∙ attributes_are k ∙ ap (λ (n : MapData). score_attributes_at n p) (sym w.map)) ∙ sym (ap (λ (r : Result). simulated_of r p) (reached_end k w h))
+    ap good (e ∙ attributes_are k ∙ ap (λ (n : MapData). score_attributes_at n p) (sym w.map)) ∙ sym (ap (λ (r : Result). simulated_of r p) (reached_end k w h))
 
-pub simulates_refused : (s : List ℕ) (p n at : ℕ) → MapFileOf s p (map_file.Refused n at) → simulated.Refused n at ≡ simulated_of (file_of s) p
-simulates_refused s p n at (refuses e) = sym (ap (λ (r : Result). simulated_of r p) e)
-
-pub file-map : {s : List ℕ} {p : ℕ} {m : Map} → MapFileOf s p (map_file.Good m) → MapIs s p m
+pub file-map : {s : List ℕ} {p : ℕ} {m : Map} → MapFileOf s p (good m) → MapIs s p m
 file-map (all k f w h) = k

@@ -9,29 +9,23 @@ use lib.Dec.{eqb, ltb}
 use lib.ListN.{length, drop, length-drop}
 use Rattle.numbers.specs.Words.{word_at}
 use Rattle.rules.specs.Limits.{max_bonus}
-use Rattle.rules.specs.Refusals.{good, refused, ◌>>=◌, ◌>>◌, refuse◌when◌, pick}
+use Rattle.rules.specs.Refusals.{good, refused, ◌>>=◌, ◌>>◌, refuse◌when◌, pick, Checked, BONUS, CUT, MARK, PLAY_FIELD}
+use Rattle.rules.specs.declared.refusal.Rule.{Rule}
+use Rattle.rules.specs.declared.refusal.Refusal.{Refusal}
 use Rattle.rules.proofs.All.{All, that, all_any, all_when, all_out}
-use Rattle.rules.proofs.Laws.{never}
 use Rattle.records.specs.Objects.{bonus}
 use Rattle.records.specs.Records.{Content, header, break, object, play, FoundRecord, content_view, record_read, CI, SL, SP, play_of}
-use Rattle.records.specs.declared.beatmap.Settings.{Settings}
-use Rattle.records.specs.declared.beatmap.BreakPeriod.{BreakPeriod}
-use Rattle.records.specs.declared.hit_object.HitObject.{HitObject}
 use Rattle.records.specs.declared.record.Record.{Record}
 use Rattle.records.specs.declared.record.Record.TheVariants as record_case
-use Rattle.records.specs.declared.record.Read.TheVariants as record_read
 use Rattle.play_state.specs.declared.Play.{Play}
 use Rattle.map_file.specs.Order.{MH, BR, PL, rank_of, in_order, over_bonus, content_bonus, body_of, record_of}
 use Rattle.map_file.specs.File.{File, accepted, refused_at, counts_of, with_record, follow, ended, file_from, file_of}
 use Rattle.map_file.specs.declared.file.Counts.{Counts}
 use Rattle.map_file.proofs.Reading.{longer, chain_on, chain_inside, on_stop, on_end, found_at, ended_is}
-use Rattle.map_reader.specs.Map.{MapIs, MapReadOf, is, Behind, nothing, plays}
-use Rattle.map_reader.specs.declared.map.MapRead.TheVariants as map_read
+use Rattle.map_reader.specs.Map.{MapIs, MapReadOf, is, refuses as map_refuses, Behind, nothing, plays}
 use Rattle.map_reader.specs.declared.map.Map.{Map}
 use Rattle.map_reader.proofs.Attributed.{limits}
-use Rattle.play_reader.specs.Plays.{play_record, play_with, play_by, play_in, Place, first, later, Reached}
-use Rattle.play_reader.specs.declared.PlayRead.{PlayRead}
-use Rattle.play_reader.specs.declared.PlayRead.TheVariants as read
+use Rattle.play_reader.specs.Plays.{play_record, play_with, play_by, play_in, Place, first, later, Reached, MapFileOf, refuses}
 
 -- ---- the record of a play
 data PlayOnly : Content → ℕ → Type 0 where
@@ -39,95 +33,75 @@ data PlayOnly : Content → ℕ → Type 0 where
 
 body_only : (r : List ℕ) → All (λ f. PlayOnly f.0 f.1) (play_of r)
 unfolding play_of
-body_only r = all_when 2 _ _ (λ _. all_any _ _ (λ o. all_any _ _ (λ s. all_when 8 _ _ (λ _. all_any _ _ (λ x. that only)))))
+body_only r = all_when CUT _ _ (λ _. all_any _ _ (λ o. all_any _ _ (λ s. all_when PLAY_FIELD _ _ (λ _. all_any _ _ (λ x. that only)))))
 
 play_only : (r : List ℕ) → All (λ f. PlayOnly f.0 f.1) (play_record r)
 unfolding play_record
-play_only r = all_when 2 _ _ (λ _. all_when 3 _ _ (λ _. body_only r))
+play_only r = all_when CUT _ _ (λ _. all_when MARK _ _ (λ _. body_only r))
 
-pub play_is : (r : List ℕ) (p : Play) → read.Is p ≡ play_in r → play_record r ≡ good (play p, 44)
+pub play_is : (r : List ℕ) (p : Play) → good p ≡ play_in r → play_record r ≡ good (play p, 44)
 play_is r p e = go (play_record r) refl (play_only r) e
   where
-    by_content : (x : Content) (n : ℕ) → PlayOnly x n → play_record r ≡ good (x, n) → read.Is p ≡ play_with x → play_record r ≡ good (play p, 44)
+    by_content : (x : Content) (n : ℕ) → PlayOnly x n → play_record r ≡ good (x, n) → good p ≡ play_with x → play_record r ≡ good (play p, 44)
     by_content (play q) n only h e = let same : q ≡ p = cc in h ∙ ap (λ (i : Play). good (play i, 44)) same
     by_content (header _) n x5 h e = elim x5 [ ]
     by_content (break _) n x6 h e = elim x6 [ ]
     by_content (object _) n x7 h e = elim x7 [ ]
 
-    go : (x : FoundRecord) → play_record r ≡ x → All (λ f. PlayOnly f.0 f.1) x → read.Is p ≡ play_by x → play_record r ≡ good (play p, 44)
-    go (refused n) q a e = never (cc)
+    go : (x : FoundRecord) → play_record r ≡ x → All (λ f. PlayOnly f.0 f.1) x → good p ≡ play_by x → play_record r ≡ good (play p, 44)
+    go (refused n) q a e = cc
     go (good f) q a e = by_content f.0 f.1 (all_out a) q e
 
-pub play_refused : (r : List ℕ) (n : ℕ) → read.Refused n ≡ play_in r → play_record r ≡ refused n
+pub play_refused : (r : List ℕ) (n : Rule) → refused n ≡ play_in r → play_record r ≡ refused n
 play_refused r n e = go (play_record r) refl (play_only r) e
   where
-    by_content : (x : Content) (m : ℕ) → PlayOnly x m → read.Refused n ≡ play_with x → play_record r ≡ refused n
-    by_content (play q) m only e = never (cc)
+    by_content : (x : Content) (m : ℕ) → PlayOnly x m → refused n ≡ play_with x → play_record r ≡ refused n
+    by_content (play q) m only e = cc
     by_content (header _) m x4 e = elim x4 [ ]
     by_content (break _) m x5 e = elim x5 [ ]
     by_content (object _) m x6 e = elim x6 [ ]
 
-    go : (x : FoundRecord) → play_record r ≡ x → All (λ f. PlayOnly f.0 f.1) x → read.Refused n ≡ play_by x → play_record r ≡ refused n
+    go : (x : FoundRecord) → play_record r ≡ x → All (λ f. PlayOnly f.0 f.1) x → refused n ≡ play_by x → play_record r ≡ refused n
     go (refused m) q a e = let same : m ≡ n = cc in q ∙ ap refused same
     go (good f) q a e = by_content f.0 f.1 (all_out a) e
 
--- ---- what the code read, of a record of two bytes and more
-pub in_none : (s : List ℕ) (at : ℕ) → length s ≤ at → read.Refused 2 ≡ play_in (drop at s)
+-- ---- what the code takes of a record
+abbrev play_from : Record → Checked Play
+play_from (record_case.Header t) = refused MARK
+play_from (record_case.Break b) = refused MARK
+play_from (record_case.Object o) = refused MARK
+play_from (record_case.Play p) = good p
+
+abbrev pub play_taken : Checked (Record × ℕ) → Checked Play
+play_taken (refused n) = refused n
+play_taken (good r) = play_from r.0
+
+by_content : (x : Content) → play_with x ≡ play_from (content_view x)
+by_content (header t) = refl
+by_content (break b) = refl
+by_content (object o) = refl
+by_content (play p) = refl
+
+taken : (x : FoundRecord) → play_by x ≡ play_taken (record_read x)
+taken (refused n) = refl
+taken (good f) = by_content f.0
+
+pub in_none : (s : List ℕ) (at : ℕ) → length s ≤ at → play_in (drop at s) ≡ refused CUT
 unfolding play_record ◌>>◌ refuse◌when◌
 in_none s at h = let e = length-drop at s in rw (lt-ltb (length (drop at s)) 2 (omega (arith, e, h)))
 
-pub in_cut : (r : List ℕ) → length r < 2 → read.Refused 2 ≡ play_in r
-unfolding play_record ◌>>◌ refuse◌when◌
-in_cut r h = rw (lt-ltb (length r) 2 h)
-
-module _ (r : List ℕ) (two : 2 ≤ length r) (m : ℕ) (e : m ≡ word_at r 0 2) where
-  pub in_other : (m ≡ PL → ⊥) → read.Refused 3 ≡ play_in r
+module _ (r : List ℕ) where
+  pub in_cut : length r < 2 → play_in r ≡ refused CUT
   unfolding play_record ◌>>◌ refuse◌when◌
-  in_other h = rw (le-ltb (length r) 2 two, ne_eqb (word_at r 0 2) PL (λ z. h (e ∙ z)))
+  in_cut h = rw (lt-ltb (length r) 2 h)
 
-  module _ (is : m ≡ PL) where
-    body_is : play_record r ≡ play_of r
-    unfolding play_record ◌>>◌ refuse◌when◌
-    body_is = rw (le-ltb (length r) 2 two, sym e ∙ is)
+  pub in_other : 2 ≤ length r → (word_at r 0 2 ≡ PL → ⊥) → play_in r ≡ refused MARK
+  unfolding play_record ◌>>◌ refuse◌when◌
+  in_other two h = rw (le-ltb (length r) 2 two, ne_eqb (word_at r 0 2) PL h)
 
-    pub in_refused : (n : ℕ) → record_read.Refused n ≡ record_read (play_of r) → read.Refused n ≡ play_in r
-    in_refused n h = go (play_of r) h ∙ ap play_by (sym body_is)
-      where
-        go : (x : FoundRecord) → record_read.Refused n ≡ record_read x → read.Refused n ≡ play_by x
-        go (refused k) h = let same : n ≡ k = cc in ap read.Refused same
-        go (good f) h = never (cc)
-
-    module _ (item : Record) (n : ℕ) (h : record_read.Good item n ≡ record_read (play_of r)) where
-      in_content : (g : Record → PlayRead) → ((x : Content) → g (content_view x) ≡ play_with x) → g item ≡ play_in r
-      in_content g k = go (play_of r) h ∙ ap play_by (sym body_is)
-        where
-          go : (x : FoundRecord) → record_read.Good item n ≡ record_read x → g item ≡ play_by x
-          go (refused i) h = never (cc)
-          go (good f) h = let same : item ≡ content_view f.0 = cc in ap g same ∙ k f.0
-
-      abbrev told : Record → PlayRead
-      told (record_case.Header t) = read.Refused 3
-      told (record_case.Break b) = read.Refused 3
-      told (record_case.Object o) = read.Refused 3
-      told (record_case.Play p) = read.Is p
-
-      told_is : (x : Content) → told (content_view x) ≡ play_with x
-      told_is (header t) = refl
-      told_is (break b) = refl
-      told_is (object o) = refl
-      told_is (play p) = refl
-
-      pub in_play : (p : Play) → item ≡ record_case.Play p → read.Is p ≡ play_in r
-      in_play p i = sym (ap told i) ∙ in_content told told_is
-
-      pub in_header : (t : Settings) → item ≡ record_case.Header t → read.Refused 3 ≡ play_in r
-      in_header t i = sym (ap told i) ∙ in_content told told_is
-
-      pub in_break : (b : BreakPeriod) → item ≡ record_case.Break b → read.Refused 3 ≡ play_in r
-      in_break b i = sym (ap told i) ∙ in_content told told_is
-
-      pub in_object : (o : HitObject) → item ≡ record_case.Object o → read.Refused 3 ≡ play_in r
-      in_object o i = sym (ap told i) ∙ in_content told told_is
+  pub in_play : 2 ≤ length r → word_at r 0 2 ≡ PL → play_in r ≡ play_taken (record_read (play_of r))
+  unfolding play_record ◌>>◌ refuse◌when◌
+  in_play two h = rw (le-ltb (length r) 2 two, h) (taken (play_of r))
 
 -- ---- the next record behind a map or a play
 other_rank : (m : ℕ) → eqb m PL ≡ false → not (in_order 4 (rank_of m)) ≡ true
@@ -139,12 +113,12 @@ other_rank m e = go (eqb m MH) (eqb m BR) (eqb m CI) (eqb m SL) (eqb m SP) (eqb 
     go false false true d f g e = refl
     go false false false true f g e = refl
     go false false false false true g e = refl
-    go false false false false false true e = never (cc)
+    go false false false false false true e = cc
     go false false false false false false e = refl
 
 -- a play adds no bonus
 free : (c : Counts) → c.bonus ≤ max_bonus → (x : FoundRecord) → All (λ f. PlayOnly f.0 f.1) x
-    → (x >>= (λ f. (refuse 7 when over_bonus c (content_bonus f.0)) >> good f)) ≡ x
+    → (x >>= (λ f. (refuse BONUS when over_bonus c (content_bonus f.0)) >> good f)) ≡ x
 unfolding ◌>>=◌ ◌>>◌ refuse◌when◌
 free c h (refused n) a = refl
 free c h (good f) a = go f (all_out a)
@@ -152,17 +126,17 @@ free c h (good f) a = go f (all_out a)
     none_more : c.bonus + 0 ≤ max_bonus
     none_more = omega (arith, h)
 
-    go : (g : Content × ℕ) → PlayOnly g.0 g.1 → ((refuse 7 when over_bonus c (content_bonus g.0)) >> good g) ≡ good g
+    go : (g : Content × ℕ) → PlayOnly g.0 g.1 → ((refuse BONUS when over_bonus c (content_bonus g.0)) >> good g) ≡ good g
     go (play p, n) only = rw (le-ltb max_bonus (c.bonus + 0) none_more)
     go (header _, n) x7 = elim x7 [ ]
     go (break _, n) x8 = elim x8 [ ]
     go (object _, n) x9 = elim x9 [ ]
 
-order : (r : List ℕ) (c : Counts) → c.last ≡ 4 → 2 ≤ length r → not (in_order 4 (rank_of (word_at r 0 2))) ≡ true → record_of r c ≡ refused 3
+order : (r : List ℕ) (c : Counts) → c.last ≡ 4 → 2 ≤ length r → not (in_order 4 (rank_of (word_at r 0 2))) ≡ true → record_of r c ≡ refused MARK
 unfolding record_of ◌>>◌ refuse◌when◌
 order r c l h e = simp (le-ltb (length r) 2 h, l, e)
 
-mark : (r : List ℕ) → 2 ≤ length r → eqb (word_at r 0 2) PL ≡ false → play_record r ≡ refused 3
+mark : (r : List ℕ) → 2 ≤ length r → eqb (word_at r 0 2) PL ≡ false → play_record r ≡ refused MARK
 unfolding play_record ◌>>◌ refuse◌when◌
 mark r h e = simp (le-ltb (length r) 2 h, e)
 
@@ -178,10 +152,10 @@ module _ (r : List ℕ) (c : Counts) (low : c.bonus ≤ max_bonus) where
   by_other : c.last ≡ 4 → 2 ≤ length r → eqb (word_at r 0 2) PL ≡ false → record_of r c ≡ play_record r
   by_other l h e = found ∙ sym told
     where
-      found : record_of r c ≡ refused 3
+      found : record_of r c ≡ refused MARK
       found = order r c l h (other_rank (word_at r 0 2) e)
 
-      told : play_record r ≡ refused 3
+      told : play_record r ≡ refused MARK
       told = mark r h e
 
   -- behind a play no other record can stand; behind a map a play does
@@ -236,7 +210,7 @@ module _ {s : List ℕ} {p : ℕ} {m : Map} (k : MapIs s p m) where
       abbrev pub file_with : Play → File
       file_with q = with_record f (play q, 44)
 
-      pub reached_next : (q : Play) → read.Is q ≡ play_in (drop f.at s) → Reached k (file_with q)
+      pub reached_next : (q : Play) → good q ≡ play_in (drop f.at s) → Reached k (file_with q)
       unfolding with_record
       reached_next q e = record {
         chain = longer w.chain h (next_is ∙ play_is (drop f.at s) q e);
@@ -248,7 +222,7 @@ module _ {s : List ℕ} {p : ℕ} {m : Map} (k : MapIs s p m) where
           ahead (first g) = let z = ap (λ (i : File). i.at) g in omega (arith, z)
           ahead (later g l) = omega (arith, l)
 
-      pub reached_stop : (n : ℕ) → read.Refused n ≡ play_in (drop f.at s) → file_of s ≡ refused_at n f.at f
+      pub reached_stop : (n : Rule) → refused n ≡ play_in (drop f.at s) → file_of s ≡ refused_at n f.at f
       reached_stop n e = on_stop s f n (chain_on s f w.chain) h (next_is ∙ play_refused (drop f.at s) n e)
 
     module _ (h : length s ≤ f.at) where
@@ -273,13 +247,13 @@ module _ {s : List ℕ} {p : ℕ} {m : Map} (k : MapIs s p m) (g : File) where
 
   from_same : (fuel : ℕ) (f : File) → Reached k f → file_from fuel s f ≡ accepted g → g.map ≡ k.file.map
   unfolding file_from
-  from_same zero f w e = never (cc)
+  from_same zero f w e = cc
   from_same (suc fuel) f w e = go (λ i v q. from_same fuel i v q) (ltb f.at (length s)) refl (found_at s f) refl e
     where
       go : ((i : File) → Reached k i → file_from fuel s i ≡ accepted g → g.map ≡ k.file.map) → (b : Bool) → ltb f.at (length s) ≡ b → (x : FoundRecord) → found_at s f ≡ x
           → pick b (follow f x (λ r. file_from fuel s (with_record f r))) (ended f) ≡ accepted g → g.map ≡ k.file.map
       go more false l x q e = sym (ap (λ (i : File). i.map) (ended_is f g e)) ∙ w.map
-      go more true l (refused n) q e = never (cc)
+      go more true l (refused n) q e = cc
       go more true l (good r) q e =
           let h = ltb-true f.at (length s) l in
           let only-play = all_out (subst (All (λ i. PlayOnly i.0 i.1)) (sym (next_is k w h) ∙ q) (play_only (drop f.at s))) in
@@ -295,7 +269,10 @@ pub record ReadTo (s : List ℕ) (p : ℕ) (m : Map) (at : ℕ) : Type 0 where
   pub reached : Reached map file
   pub here : file.at ≡ at
 
-pub map_out : {s : List ℕ} {p : ℕ} {m : Map} → MapReadOf s p (map_read.Map m) → MapIs s p m
+pub map_refused : {s : List ℕ} {p : ℕ} {r : Refusal} → MapReadOf s p (refused r) → MapFileOf s p (refused r)
+map_refused (map_refuses e h) = refuses e
+
+pub map_out : {s : List ℕ} {p : ℕ} {m : Map} → MapReadOf s p (good m) → MapIs s p m
 map_out (is k) = k
 
 unfoldable pub read_start : {s : List ℕ} {p : ℕ} {m : Map} (k : MapIs s p m) → ReadTo s p m m.end
@@ -309,7 +286,7 @@ module _ {s : List ℕ} {p : ℕ} {m : Map} {at : ℕ} (k : ReadTo s p m at) whe
     pub before : k.file.at < length s
     before = let e = k.here in omega (arith, e, h)
 
-    module _ (q : Play) (e : read.Is q ≡ play_in (drop at s)) where
+    module _ (q : Play) (e : good q ≡ play_in (drop at s)) where
       unfoldable pub read_more : ReadTo s p m (at + 44)
       unfolding with_record
       read_more = record {
@@ -319,10 +296,7 @@ module _ {s : List ℕ} {p : ℕ} {m : Map} {at : ℕ} (k : ReadTo s p m at) whe
         here = let i = k.here in omega (arith, i);
       }
 
-      pub read_inside : at + 44 ≤ length s
-      read_inside = let i = chain_inside s read_more.file read_more.reached.chain in let z = read_more.here in omega (arith, i, z)
-
-    pub read_stop : (n : ℕ) → read.Refused n ≡ play_in (drop at s) → file_of s ≡ refused_at n at k.file
+    pub read_stop : (n : Rule) → refused n ≡ play_in (drop at s) → file_of s ≡ refused_at n at k.file
     read_stop n e = reached_stop k.map k.reached before n (e ∙ ap play_in there) ∙ ap (λ (i : ℕ). refused_at n i k.file) k.here
 
   pub read_end : length s ≤ at → length s ≤ k.file.at

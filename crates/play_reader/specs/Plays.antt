@@ -2,7 +2,9 @@
 use Rattle.std.specs.Prelude.{ℕ, ◌≤◌, ◌<◌, ◌≡◌, not, List, eqb, length}
 use Rattle.numbers.specs.Words.{word_at}
 use Rattle.rules.specs.Limits.{mark_size}
-use Rattle.rules.specs.Refusals.{good, refused, ◌>>◌, refuse◌when◌, CUT, MARK}
+use Rattle.rules.specs.Refusals.{good, refused, ◌>>◌, refuse◌when◌, CUT, MARK, Checked, OrRefusal, refusal_at}
+use Rattle.rules.specs.declared.refusal.Rule.{Rule}
+use Rattle.play_state.specs.declared.Play.{Play}
 use Rattle.records.specs.Fields.{cut}
 use Rattle.records.specs.Records.{Content, header, break, object, play, FoundRecord, play_of}
 use Rattle.map_file.specs.Order.{PL, play_rank}
@@ -10,10 +12,6 @@ use Rattle.map_file.specs.File.{File, refused_at, file_of}
 use Rattle.map_file.proofs.Reading.{Chain}
 use Rattle.map_reader.specs.Map.{MapIs}
 use Rattle.map_reader.specs.declared.map.Map.{Map}
-use Rattle.play_reader.specs.declared.PlayRead.{PlayRead}
-use Rattle.play_reader.specs.declared.PlayRead.TheVariants as read
-use Rattle.play_reader.specs.declared.MapFile.{MapFile}
-use Rattle.play_reader.specs.declared.MapFile.TheVariants as map_file
 
 -- the record of a play; no other can stand behind a play
 unfoldable pub play_record : List ℕ → FoundRecord
@@ -22,17 +20,17 @@ play_record r = do
   refuse MARK when not (eqb (word_at r 0 2) PL)
   play_of r
 
-abbrev pub play_with : Content → PlayRead
-play_with (header s) = read.Refused MARK
-play_with (break b) = read.Refused MARK
-play_with (object o) = read.Refused MARK
-play_with (play p) = read.Is p
+abbrev pub play_with : Content → Checked Play
+play_with (header s) = refused MARK
+play_with (break b) = refused MARK
+play_with (object o) = refused MARK
+play_with (play p) = good p
 
-abbrev pub play_by : FoundRecord → PlayRead
-play_by (refused n) = read.Refused n
+abbrev pub play_by : FoundRecord → Checked Play
+play_by (refused n) = refused n
 play_by (good f) = play_with f.0
 
-abbrev pub play_in : List ℕ → PlayRead
+abbrev pub play_in : List ℕ → Checked Play
 play_in r = play_by (play_record r)
 
 -- where a reader of plays stands: at the map's end, or behind a play
@@ -47,6 +45,6 @@ pub record Reached {s : List ℕ} {p : ℕ} {m : Map} (k : MapIs s p m) (f : Fil
   pub place : Place k.file f
 
 -- the map of a file that is read to its end, or the file's refusal
-pub data MapFileOf (s : List ℕ) (p : ℕ) : MapFile → Type 0 where
-  all : {m : Map} (k : MapIs s p m) (f : File) → Reached k f → length s ≤ f.at → MapFileOf s p (map_file.Good m)
-  refuses : {n at : ℕ} {f : File} → file_of s ≡ refused_at n at f → MapFileOf s p (map_file.Refused n at)
+pub data MapFileOf (s : List ℕ) (p : ℕ) : OrRefusal Map → Type 0 where
+  all : {m : Map} (k : MapIs s p m) (f : File) → Reached k f → length s ≤ f.at → MapFileOf s p (good m)
+  refuses : {n : Rule} {at : ℕ} {f : File} → file_of s ≡ refused_at n at f → MapFileOf s p (refused (refusal_at n at))

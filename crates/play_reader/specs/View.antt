@@ -1,6 +1,6 @@
 -- What the calls on a whole file answer.
 use Rattle.std.specs.Prelude.{ℕ, ltb}
-use Rattle.rules.specs.Refusals.{pick}
+use Rattle.rules.specs.Refusals.{pick, OrRefusal, good, refused, refusal_at}
 use Rattle.map_file.specs.Order.{play_rank}
 use Rattle.map_file.specs.File.{Result, accepted, refused_at}
 use Rattle.map_file.specs.View.{view}
@@ -9,10 +9,7 @@ use Rattle.map_reader.specs.Objects.{bonus_of}
 use Rattle.map_reader.specs.Map.{rank_behind}
 use Rattle.map_reader.specs.declared.map.Map.{Map}
 use Rattle.simulator.specs.Attributes.{score_attributes_at}
-use Rattle.play_reader.specs.declared.Answer.{Answer}
-use Rattle.play_reader.specs.declared.Answer.TheVariants as answer
-use Rattle.play_reader.specs.declared.Simulated.{Simulated}
-use Rattle.play_reader.specs.declared.Simulated.TheVariants as simulated
+use Rattle.simulator.specs.declared.attributes.ScoreAttributes.{ScoreAttributes}
 
 -- the place in the order of the last record of a file of n bytes, all of which were read
 abbrev pub last_rank : ℕ → Map → ℕ
@@ -26,11 +23,11 @@ reader_in n m = record {
 }
 
 -- the file's map by its counts
-abbrev pub answer_of : Result → Answer
-answer_of (accepted f) = answer.Map (view f)
-answer_of (refused_at n at f) = answer.Refused n at
+abbrev pub answer_of : Result → OrRefusal Reader
+answer_of (accepted f) = good (view f)
+answer_of (refused_at n at f) = refused (refusal_at n at)
 
 -- the score attributes of the first p objects; "A refused call gives the number below and an offset"
-abbrev pub simulated_of : Result → ℕ → Simulated
-simulated_of (accepted f) p = simulated.Map (score_attributes_at f.map p)
-simulated_of (refused_at n at f) p = simulated.Refused n at
+abbrev pub simulated_of : Result → ℕ → OrRefusal ScoreAttributes
+simulated_of (accepted f) p = good (score_attributes_at f.map p)
+simulated_of (refused_at n at f) p = refused (refusal_at n at)

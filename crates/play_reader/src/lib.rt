@@ -8,86 +8,44 @@ ghost use Rattle.play_reader.specs.View.{last_rank, reader_in, answer_of, simula
 
 use map_file::file::{Counts, PL, PLAY_RANK, Reader};
 use map_reader::attributes::attributes_of;
-use map_reader::map::{Map, MapRead, rank_behind, read_passed};
+use map_reader::map::{Map, rank_behind, read_passed};
 use numbers::words::word_at;
 use play_state::Play;
 use records::play_record::read_play;
-use records::record::{Read, Record};
-use rules::refusal;
+use records::record::Record;
+use rules::refusal::{Refusal, Rule};
 use simulator::attributes::ScoreAttributes;
 
-// The play of a record, or the number of its refusal.
-#[derive(Clone, Copy)]
-pub enum PlayRead {
-    Is(Play),
-    Refused(u8),
-}
-
-// A map behind which only good records of plays stand.
-#[derive(Clone, Copy)]
-pub enum MapFile {
-    Good(Map),
-    Refused { number: u8, offset: usize },
-}
-
-#[derive(Clone, Copy)]
-pub enum Answer {
-    Map(Reader),
-    Refused { number: u8, offset: usize },
-}
-
-#[derive(Clone, Copy)]
-pub enum Simulated {
-    Map(ScoreAttributes),
-    Refused { number: u8, offset: usize },
-}
-
 // The play that stands at an offset, behind a map or another play.
-pub fn play_at(s: &[u8], at: usize) -> PlayRead
+#[tactic(auto, using(map_file::proofs::Steps::rest_is, crate::proofs::Playing::in_none, crate::proofs::Playing::in_cut, crate::proofs::Playing::in_other, crate::proofs::Playing::in_play))]
+pub fn play_at(s: &[u8], at: usize) -> Result<Play, Rule>
     ensures { result ≡ play_in (drop at s.now) }
 {
     if s.len() <= at {
-        return PlayRead::Refused(refusal::CUT);
+        return Err(Rule::Cut);
     }
     let r = &s[at..];
     if r.len() < 2 {
-        return PlayRead::Refused(refusal::CUT);
+        return Err(Rule::Cut);
     }
     if word_at(r, 0, 2) != PL {
-        return PlayRead::Refused(refusal::MARK);
+        return Err(Rule::Mark);
     }
-    match read_play(r) {
-        Read::Refused(number) => PlayRead::Refused(number),
-        Read::Good(item, _) => match item {
-            Record::Play(play) => PlayRead::Is(play),
-            Record::Header(_) => PlayRead::Refused(refusal::MARK),
-            Record::Break(_) => PlayRead::Refused(refusal::MARK),
-            Record::Object(_) => PlayRead::Refused(refusal::MARK),
-        },
+    match read_play(r)? {
+        (Record::Play(play), _) => Ok(play),
+        (Record::Header(_) | Record::Break(_) | Record::Object(_), _) => Err(Rule::Mark),
     }
 }
 
-// The records of a file, each play by its own fields alone.
-pub fn read_file(s: &[u8], passed: u64) -> MapFile
+// The map of a file behind which only good records of plays stand, each play by its own fields alone.
+pub fn read_file(s: &[u8], passed: u64) -> Result<Map, Refusal>
     ensures { MapFileOf s.now passed result }
 {
-    match read_passed(s, passed) {
-        MapRead::Refused { number, offset } => MapFile::Refused { number, offset },
-        MapRead::Map(map) => {
-            let mut at = map.end;
-            while at < s.len() {
-                match play_at(s, at) {
-                    PlayRead::Refused(number) => {
-                        return MapFile::Refused { number, offset: at };
-                    }
-                    PlayRead::Is(_) => {
-                        at += Play::SIZE;
-                    }
-                }
-            }
-            MapFile::Good(map)
-        }
+    let map = read_passed(s, passed)?;
+    for at in (map.end..s.len()).step_by(Play::SIZE) {
+        play_at(s, at).map_err(|rule| rule.at(at))?;
     }
+    Ok(map)
 }
 
 // The place in the order of a file's last record.
@@ -118,21 +76,17 @@ fn reader_in(s: &[u8], map: Map) -> Reader
 }
 
 // The map file: its settings and counts, or the first refusal.
-pub fn read_map(s: &[u8]) -> Answer
+pub fn read_map(s: &[u8]) -> Result<Reader, Refusal>
     ensures { result ≡ answer_of (file_of s.now) }
 {
-    match read_file(s, u64::MAX) {
-        MapFile::Refused { number, offset } => Answer::Refused { number, offset },
-        MapFile::Good(map) => Answer::Map(reader_in(s, map)),
-    }
+    let map = read_file(s, u64::MAX)?;
+    Ok(reader_in(s, map))
 }
 
 // The score attributes of a file's first `passed` objects.
-pub fn simulate(s: &[u8], passed: u64) -> Simulated
+pub fn simulate(s: &[u8], passed: u64) -> Result<ScoreAttributes, Refusal>
     ensures { result ≡ simulated_of (file_of s.now) passed }
 {
-    match read_file(s, passed) {
-        MapFile::Refused { number, offset } => Simulated::Refused { number, offset },
-        MapFile::Good(map) => Simulated::Map(attributes_of(s, map)),
-    }
+    let map = read_file(s, passed)?;
+    Ok(attributes_of(s, map))
 }

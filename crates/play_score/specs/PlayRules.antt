@@ -2,7 +2,7 @@
 -- and its score.
 use Rattle.std.specs.Prelude.{Bool, not, ◌&&◌, ◌||◌, ltb}
 use Rattle.records.specs.Fields.{is_rate}
-use Rattle.rules.specs.Refusals.{Checked, good, refused, ◌>>◌, refuse◌when◌, PLAY_FIELD, PLAY_EXCEEDS}
+use Rattle.rules.specs.Refusals.{Checked, good, ◌>>◌, refuse◌when◌, PLAY_FIELD, PLAY_EXCEEDS}
 use Rattle.play_state.specs.Play.{flags_bad}
 use Rattle.play_state.specs.declared.GameMods.{GameMods}
 use Rattle.play_state.specs.declared.OsuHitResults.{OsuHitResults}
@@ -15,10 +15,6 @@ use Rattle.estimates.specs.Accuracy.{large_ticks}
 use Rattle.estimates.specs.ComboBased.{is_classic_of}
 use Rattle.estimates.specs.Effective.{estimates_of}
 use Rattle.play_score.specs.declared.PlayScore.{PlayScore}
-use Rattle.play_score.specs.declared.Scored.{Scored}
-use Rattle.play_score.specs.declared.Scored.TheVariants as scored
-use Rattle.play_score.specs.declared.GivenPlay.{GivenPlay}
-use Rattle.play_score.specs.declared.GivenPlay.TheVariants as given
 
 -- "8: a play field is out of range": "higher bits are 0"; "clock rate f64 above 0 and at most 100"
 unfoldable pub mods_bad : GameMods → Bool
@@ -40,19 +36,6 @@ unfoldable pub play_score : Play → ScoreAttributes → Checked PlayScore
 play_score p a = do
   refuse PLAY_EXCEEDS when exceeds p a
   good (record { attributes = a; estimates = estimates_of p a.difficulty })
-
--- the answer of a play on attributes: the values, or the number
-abbrev pub scored_of : Checked PlayScore → Scored
-scored_of (refused n) = scored.Refused n
-scored_of (good s) = scored.Score s
-
--- a play that is given beside the file has no offset
-abbrev pub given_of : Scored → GivenPlay
-given_of (scored.Refused n) = given.Refused n 0
-given_of (scored.Score s) = given.Score s
-
-abbrev pub given_answer : Checked PlayScore → GivenPlay
-given_answer x = given_of (scored_of x)
 
 -- "The checks of one record run: .. fixed fields in layout order (4 or 8 ..) ..; a play then 9 .."
 unfoldable pub given_score : Play → ScoreAttributes → Checked PlayScore

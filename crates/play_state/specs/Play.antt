@@ -1,24 +1,19 @@
 -- Document 01, "Records of the map file": the fields of a play.
-use Rattle.std.specs.Prelude.{ℕ, ◌^◌, ◌/◌, ◌%◌, Bool, not, List, eqb}
+use Rattle.std.specs.Option.{ok_or}
+use Rattle.std.specs.Prelude.{ℕ, ◌^◌, ◌/◌, ◌%◌, Bool, not, List, eqb, Option, Some, None}
 use Rattle.numbers.specs.Words.{word_at}
-use Rattle.rules.specs.Refusals.{Checked, good, refused, pick, PLAY_FIELD}
+use Rattle.rules.specs.Refusals.{Checked, pick, PLAY_FIELD}
 use Rattle.play_state.specs.declared.OsuHitResults.{OsuHitResults}
 use Rattle.play_state.specs.declared.OsuScoreOrigin.{OsuScoreOrigin}
 use Rattle.play_state.specs.declared.OsuScoreOrigin.TheVariants.{Stable, WithSliderAcc, WithoutSliderAcc}
-use Rattle.play_state.specs.declared.LegacyTotalScore.{LegacyTotalScore}
-use Rattle.play_state.specs.declared.LegacyTotalScore.TheVariants.{Absent, Present}
-use Rattle.play_state.specs.declared.Origin.{Origin}
-use Rattle.play_state.specs.declared.Origin.TheVariants as origin
-use Rattle.play_state.specs.declared.Score.{Score}
-use Rattle.play_state.specs.declared.Score.TheVariants as score
 
 -- "origin u8 (0 Stable, 1 WithSliderAcc, 2 WithoutSliderAcc)"
-abbrev pub origin_of : ℕ → Origin
-origin_of b = pick (eqb b 0) (origin.Is Stable) (pick (eqb b 1) (origin.Is WithSliderAcc) (pick (eqb b 2) (origin.Is WithoutSliderAcc) origin.Bad))
+abbrev pub origin_of : ℕ → Option OsuScoreOrigin
+origin_of b = pick (eqb b 0) (Some Stable) (pick (eqb b 1) (Some WithSliderAcc) (pick (eqb b 2) (Some WithoutSliderAcc) None))
 
 -- "score present u8 (0 or 1); score u32 (0 if absent)"
-abbrev pub score_of : ℕ → ℕ → Score
-score_of present n = pick (eqb present 1) (score.Is (Present n)) (pick (eqb present 0) (pick (eqb n 0) (score.Is Absent) score.Bad) score.Bad)
+abbrev pub score_of : ℕ → ℕ → Option (Option ℕ)
+score_of present n = pick (eqb present 1) (Some (Some n)) (pick (eqb present 0) (pick (eqb n 0) (Some None) None) None)
 
 -- "Flag bits, from the lowest: nf, ez, hd, hr, fl, so, rx, ap, sv2": the bit at a place
 unfoldable pub flag_at : ℕ → ℕ → Bool
@@ -41,10 +36,8 @@ hitresults_of r = record {
 }
 
 -- "8: a play field is out of range"
-abbrev pub origin_checked : Origin → Checked OsuScoreOrigin
-origin_checked (origin.Is o) = good o
-origin_checked origin.Bad = refused PLAY_FIELD
+abbrev pub origin_checked : Option OsuScoreOrigin → Checked OsuScoreOrigin
+origin_checked o = ok_or o PLAY_FIELD
 
-abbrev pub score_checked : Score → Checked LegacyTotalScore
-score_checked (score.Is s) = good s
-score_checked score.Bad = refused PLAY_FIELD
+abbrev pub score_checked : Option (Option ℕ) → Checked (Option ℕ)
+score_checked s = ok_or s PLAY_FIELD

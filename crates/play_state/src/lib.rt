@@ -22,12 +22,6 @@ pub enum OsuScoreOrigin {
     WithoutSliderAcc,
 }
 
-#[derive(Clone, Copy)]
-pub enum LegacyTotalScore {
-    Absent,
-    Present(u32),
-}
-
 // The modifiers: a bit for each, from the lowest nf, ez, hd, hr, fl, so, rx, ap, sv2, and the clock rate.
 #[derive(Clone, Copy)]
 pub struct GameMods {
@@ -41,7 +35,7 @@ pub struct Play {
     pub max_combo: u32,
     pub hitresults: OsuHitResults,
     pub origin: OsuScoreOrigin,
-    pub legacy_total_score: LegacyTotalScore,
+    pub legacy_total_score: Option<u32>,
     pub mods: GameMods,
 }
 
@@ -122,43 +116,25 @@ pub fn has_unknown_flags(flags: u16) -> bool
     flags >> GameMods::FLAGS != 0
 }
 
-#[derive(Clone, Copy)]
-pub enum Origin {
-    Is(OsuScoreOrigin),
-    Bad,
-}
-
-#[derive(Clone, Copy)]
-pub enum Score {
-    Is(LegacyTotalScore),
-    Bad,
-}
-
-pub fn origin_of(b: u64) -> Origin
+// The origin of a byte of a play's record.
+pub fn origin_of(b: u64) -> Option<OsuScoreOrigin>
     ensures { result ≡ origin_of b }
 {
-    if b == 0 {
-        return Origin::Is(OsuScoreOrigin::Stable);
+    match b {
+        0 => Some(OsuScoreOrigin::Stable),
+        1 => Some(OsuScoreOrigin::WithSliderAcc),
+        2 => Some(OsuScoreOrigin::WithoutSliderAcc),
+        _ => None,
     }
-    if b == 1 {
-        return Origin::Is(OsuScoreOrigin::WithSliderAcc);
-    }
-    if b == 2 {
-        return Origin::Is(OsuScoreOrigin::WithoutSliderAcc);
-    }
-    Origin::Bad
 }
 
-pub fn score_of(present: u64, score: u32) -> Score
+// The score of a play's record by its mark, or no score, if the record may say so.
+pub fn score_of(present: u64, score: u32) -> Option<Option<u32>>
     ensures { result ≡ score_of present score }
 {
-    if present == 1 {
-        return Score::Is(LegacyTotalScore::Present(score));
+    match present {
+        1 => Some(Some(score)),
+        0 if score == 0 => Some(None),
+        _ => None,
     }
-    if present == 0 {
-        if score == 0 {
-            return Score::Is(LegacyTotalScore::Absent);
-        }
-    }
-    Score::Bad
 }

@@ -6,7 +6,7 @@
 ghost use Rattle.std.specs.Prelude.{◌≡◌};
 ghost use Rattle.map_file.specs.File.{file_of};
 ghost use Rattle.play_reader.specs.View.{answer_of};
-ghost use Rattle.play_score.specs.PlayRules.{given_answer};
+ghost use Rattle.rules.specs.Refusals.{at_0};
 ghost use Rattle.scoring.specs.Scores.{scores_of, map_score_of, given_play_of, listed_play_of};
 ghost use Rattle.board.specs.Place.{written_left};
 ghost use Rattle.board_build.specs.Build.{built};
@@ -25,11 +25,11 @@ use board::read::read;
 use board_build::build;
 use entries::entry::Entry;
 use heat::{due, heat_one, heat_start, heat_status};
-use host::answer::{MapAnswer, PlayAnswer, given_answer_of, listed_answer_of, map_answer_of};
-use host::breaks::{BreaksAnswer, HostFactors, added_by, answer_with, factors_in};
-use host::map::{HostSettings, MapInfo, map_info_of, settings_in};
-use host::play::{HostPlay, play_in};
-use host::status::{Status, status_of};
+use host::answer::{MapAnswer, PlayAnswer};
+use host::breaks::{BreaksAnswer, HostFactors, added_by, answer_with};
+use host::map::{HostSettings, MapInfo};
+use host::play::HostPlay;
+use host::status::Status;
 use play_reader::read_map;
 use records::hit_object::HitObject;
 use scoring::score::{score_map, score_play, score_play_at};
@@ -51,7 +51,7 @@ pub extern "C" fn pjp_board_words(count: usize) -> usize
 pub extern "C" fn pjp_read_map(file: &[u8]) -> MapInfo
     ensures { result ≡ map_info_of (answer_of (file_of file.now)) }
 {
-    map_info_of(read_map(file))
+    read_map(file).into()
 }
 
 // The attributes of all objects.
@@ -59,18 +59,20 @@ pub extern "C" fn pjp_read_map(file: &[u8]) -> MapInfo
 pub extern "C" fn pjp_score_map(file: &[u8]) -> MapAnswer
     ensures { result ≡ map_answer_of (map_score_of (scores_of (file_of file.now))) }
 {
-    map_answer_of(score_map(file))
+    score_map(file).into()
 }
 
 // A play that is given beside the file.
+#[tactic(auto, unfolding(host::specs::Answer::single_of))]
 #[unsafe(no_mangle)]
 pub extern "C" fn pjp_score_play(file: &[u8], play: HostPlay) -> PlayAnswer
     ensures { result ≡ single_of (scores_of (file_of file.now)) play }
 {
-    given_answer_of(score_play(file, play_in(play)))
+    score_play(file, play.into()).into()
 }
 
 // A play that is given beside the file, with its slider breaks.
+#[tactic(auto, using(host::proofs::BreaksAdded::added_play), unfolding(host::specs::Answer::single_of))]
 #[unsafe(no_mangle)]
 pub extern "C" fn pjp_score_play_breaks(
     file: &[u8],
@@ -80,7 +82,7 @@ pub extern "C" fn pjp_score_play_breaks(
     ensures { result ≡ breaks_answer_of (with_breaks (play_in play) (factors_in factors) (given_play_of (play_in play) (scores_of (file_of file.now)))) }
 {
     let answer = pjp_score_play(file, play);
-    answer_with(answer, added_by(play_in(play), factors_in(factors), answer))
+    answer_with(answer, added_by(play.into(), factors.into(), answer))
 }
 
 // For each play what `pjp_score_play` answers, in their order. Outcomes beyond the last play stay, and all of them where the call is refused.
@@ -103,7 +105,7 @@ pub extern "C" fn pjp_heat(file: &[u8], plays: &[HostPlay], outcomes: &mut [Play
 pub extern "C" fn pjp_score_play_at(file: &[u8], index: u64) -> PlayAnswer
     ensures { result ≡ listed_answer_of (listed_play_of index (scores_of (file_of file.now))) }
 {
-    listed_answer_of(score_play_at(file, index))
+    score_play_at(file, index).into()
 }
 
 // The board and the start table of a map file.
@@ -111,7 +113,7 @@ pub extern "C" fn pjp_score_play_at(file: &[u8], index: u64) -> PlayAnswer
 pub extern "C" fn pjp_build(file: &[u8], board: &mut [u64], starts: &mut [f64]) -> Status
     ensures { (result, board.new, starts.new) ≡ status_left (built (scores_of (file_of file.now)) board.old starts.old) }
 {
-    status_of(build(file, board, starts))
+    build(file, board, starts).into()
 }
 
 // Another object at a place of a board for `count` objects.
@@ -125,7 +127,7 @@ pub extern "C" fn pjp_edit(
 ) -> Status
     ensures { (result, board.new, starts.new) ≡ status_left (written_left (edit_of board.old starts.old count place «record».now) board.old starts.old) }
 {
-    status_of(edit(board, starts, count, place, record))
+    edit(board, starts, count, place, record).into()
 }
 
 // A play on the first objects of a board for `count` objects.
@@ -138,20 +140,14 @@ pub extern "C" fn pjp_read(
     breaks: &[f64],
     play: HostPlay,
 ) -> PlayAnswer
-    ensures value { result ≡ given_answer_of (given_answer (read_of board.now starts.now count (settings_in settings) breaks.now (play_in play))) }
+    ensures value { result ≡ given_answer_of (at_0 (read_of board.now starts.now count (settings_in settings) breaks.now (play_in play))) }
     ensures unchanged { (board.exit.now ≡ board.entry.now) × (starts.exit.now ≡ starts.entry.now) × (breaks.exit.now ≡ breaks.entry.now) }
 {
-    given_answer_of(read(
-        board,
-        starts,
-        count,
-        settings_in(settings),
-        breaks,
-        play_in(play),
-    ))
+    read(board, starts, count, settings.into(), breaks, play.into()).into()
 }
 
 // A play on the first objects of a board for `count` objects, with its slider breaks.
+#[tactic(auto, using(host::proofs::BreaksAdded::added_read))]
 #[unsafe(no_mangle)]
 pub extern "C" fn pjp_read_breaks(
     board: &[u64],
@@ -162,9 +158,9 @@ pub extern "C" fn pjp_read_breaks(
     play: HostPlay,
     factors: HostFactors,
 ) -> BreaksAnswer
-    ensures value { result ≡ breaks_answer_of (with_breaks (play_in play) (factors_in factors) (given_answer (read_of board.now starts.now count (settings_in settings) breaks.now (play_in play)))) }
+    ensures value { result ≡ breaks_answer_of (with_breaks (play_in play) (factors_in factors) (at_0 (read_of board.now starts.now count (settings_in settings) breaks.now (play_in play)))) }
     ensures unchanged { (board.exit.now ≡ board.entry.now) × (starts.exit.now ≡ starts.entry.now) × (breaks.exit.now ≡ breaks.entry.now) }
 {
     let answer = pjp_read(board, starts, count, settings, breaks, play);
-    answer_with(answer, added_by(play_in(play), factors_in(factors), answer))
+    answer_with(answer, added_by(play.into(), factors.into(), answer))
 }

@@ -1,12 +1,9 @@
 -- Document 01, "Records of the map file": the ranges of the float fields. A value that is not a number is in no range.
-use Rattle.std.specs.Prelude.{ℕ, Bool, ◌&&◌, List, ltb, length, Float}
+use Rattle.std.specs.Option.{ok_or}
+use Rattle.std.specs.Prelude.{ℕ, Bool, ◌&&◌, List, ltb, length, Float, Option, Some, None}
 use Rattle.std.specs.Float.{binary32, binary64}
 use Rattle.std.specs.Float.Ieee.{of_bits, neg, lt, le}
-use Rattle.rules.specs.Refusals.{Checked, good, refused, pick, RANGE, PLAY_FIELD}
-use Rattle.records.specs.declared.fields.Double.{Double}
-use Rattle.records.specs.declared.fields.Double.TheVariants as double
-use Rattle.records.specs.declared.fields.Single.{Single}
-use Rattle.records.specs.declared.fields.Single.TheVariants as single
+use Rattle.rules.specs.Refusals.{Checked, pick, RANGE, PLAY_FIELD}
 
 -- the input ends before n bytes
 abbrev pub cut : List ℕ → ℕ → Bool
@@ -49,31 +46,28 @@ abbrev pub is_setting : Float → Bool
 is_setting = within (of_bits binary32 0) setting_limit
 
 -- ---- a field's bits
-abbrev pub double_if : Bool → Float → Double
-double_if ok x = pick ok (double.Is x) double.Bad
+abbrev pub if_in : Bool → Float → Option Float
+if_in ok x = pick ok (Some x) None
 
-abbrev pub time_of : ℕ → Double
-time_of bits = double_if (is_time (of_bits binary64 bits)) (of_bits binary64 bits)
+abbrev pub time_of : ℕ → Option Float
+time_of bits = if_in (is_time (of_bits binary64 bits)) (of_bits binary64 bits)
 
-abbrev pub duration_of : ℕ → Double
-duration_of bits = double_if (is_duration (of_bits binary64 bits)) (of_bits binary64 bits)
+abbrev pub duration_of : ℕ → Option Float
+duration_of bits = if_in (is_duration (of_bits binary64 bits)) (of_bits binary64 bits)
 
-abbrev pub rate_of : ℕ → Double
-rate_of bits = double_if (is_rate (of_bits binary64 bits)) (of_bits binary64 bits)
+abbrev pub rate_of : ℕ → Option Float
+rate_of bits = if_in (is_rate (of_bits binary64 bits)) (of_bits binary64 bits)
 
-abbrev pub setting_of : ℕ → Single
-setting_of bits = pick (is_setting (of_bits binary32 bits)) (single.Is (of_bits binary32 bits)) single.Bad
+abbrev pub setting_of : ℕ → Option Float
+setting_of bits = if_in (is_setting (of_bits binary32 bits)) (of_bits binary32 bits)
 
 -- "4: a time, setting or duration is not finite or out of range"
-abbrev pub timed : Double → Checked Float
-timed (double.Is x) = good x
-timed double.Bad = refused RANGE
+abbrev pub timed : Option Float → Checked Float
+timed x = ok_or x RANGE
 
-abbrev pub set : Single → Checked Float
-set (single.Is x) = good x
-set single.Bad = refused RANGE
+abbrev pub set : Option Float → Checked Float
+set x = ok_or x RANGE
 
 -- "8: a play field is out of range"
-abbrev pub played : Double → Checked Float
-played (double.Is x) = good x
-played double.Bad = refused PLAY_FIELD
+abbrev pub played : Option Float → Checked Float
+played x = ok_or x PLAY_FIELD

@@ -1,6 +1,6 @@
 -- Document 01, "Records of the map file": each record from its mark on, with its size. The checks stand in the document's order: fixed part
 -- cut (2), fixed fields in layout order (4 or 8, a nested count 6), nested list cut (2), nested list (5).
-use Rattle.std.specs.Prelude.{ℕ, ◌+◌, List, [], ◌∷◌, eqb, ltb, take, drop}
+use Rattle.std.specs.Prelude.{ℕ, ◌+◌, List, [], ◌∷◌, eqb, ltb, take, drop, Option, Some, None}
 use Rattle.rules.specs.Limits.{max_nested, header_size, break_size, circle_size, slider_size, spinner_size, play_size}
 use Rattle.numbers.specs.Words.{word_at}
 use Rattle.rules.specs.Refusals.{Checked, good, refused, ◌>>=◌, ◌>>◌, refuse◌when◌, pick, CUT, MARK, NESTED, COUNT, PLAY_FIELD}
@@ -9,13 +9,10 @@ use Rattle.records.specs.Objects.{Item, tick, repeat, circle, slider, spinner, O
 use Rattle.play_state.specs.Play.{origin_of, score_of, flags_bad, hitresults_of, origin_checked, score_checked}
 use Rattle.records.specs.declared.beatmap.Settings.{Settings}
 use Rattle.records.specs.declared.beatmap.BreakPeriod.{BreakPeriod}
-use Rattle.records.specs.declared.object_record.Nested.{Nested}
-use Rattle.records.specs.declared.object_record.Nested.TheVariants.{Counts, Wrong}
+use Rattle.records.specs.declared.hit_object.Slider.{Slider}
 use Rattle.play_state.specs.declared.Play.{Play}
 use Rattle.records.specs.declared.record.Record.{Record}
 use Rattle.records.specs.declared.record.Record.TheVariants.{Header, Break, Object as ObjectRecord, Play as PlayRecord}
-use Rattle.records.specs.declared.record.Read.{Read}
-use Rattle.records.specs.declared.record.Read.TheVariants.{Good, Refused}
 
 -- a record's content
 pub data Content : Type 0 where
@@ -104,9 +101,9 @@ play_of r = do
   )
 
 -- ---- what the code keeps
-abbrev pub nested_view : Checked (List Item) → Nested
-nested_view (refused n) = Wrong
-nested_view (good is) = Counts (slider_view is)
+abbrev pub nested_view : Checked (List Item) → Option Slider
+nested_view (refused n) = None
+nested_view (good is) = Some (slider_view is)
 
 abbrev pub content_view : Content → Record
 content_view (header s) = Header s
@@ -114,9 +111,9 @@ content_view (break b) = Break b
 content_view (object o) = ObjectRecord (object_view o)
 content_view (play p) = PlayRecord p
 
-abbrev pub record_read : FoundRecord → Read
-record_read (refused n) = Refused n
-record_read (good f) = Good (content_view f.0) f.1
+abbrev pub record_read : FoundRecord → Checked (Record × ℕ)
+record_read (refused n) = refused n
+record_read (good f) = good (content_view f.0, f.1)
 
 -- ---- the objects' marks, in ASCII, as little-endian numbers
 abbrev pub CI : ℕ

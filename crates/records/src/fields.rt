@@ -1,22 +1,10 @@
 // The float fields of a record, each held to the range of its rule.
 ghost use Rattle.std.specs.Prelude.{◌≡◌};
 ghost use Rattle.numbers.specs.Words.{word_at};
-ghost use Rattle.records.specs.Fields.{is_time, is_duration, is_rate, is_setting, double_if, time_of, duration_of, rate_of, setting_of};
+ghost use Rattle.records.specs.Fields.{is_time, is_duration, is_rate, is_setting, time_of, duration_of, rate_of, setting_of};
 
 use numbers::bits::{f32_from_bits, f64_from_bits};
 use numbers::words::word_at;
-
-#[derive(Clone, Copy)]
-pub enum Double {
-    Is(f64),
-    Bad,
-}
-
-#[derive(Clone, Copy)]
-pub enum Single {
-    Is(f32),
-    Bad,
-}
 
 // Milliseconds, from the negative of this on.
 pub const TIME_LIMIT: f64 = 8000000.0;
@@ -56,44 +44,34 @@ pub fn is_setting(x: f32) -> bool
     (x >= 0.0) & (x <= SETTING_LIMIT)
 }
 
-fn double_if(ok: bool, x: f64) -> Double
-    ensures { result ≡ double_if ok x }
-{
-    if ok { Double::Is(x) } else { Double::Bad }
-}
-
-pub fn time_at(r: &[u8], at: usize) -> Double
+pub fn time_at(r: &[u8], at: usize) -> Option<f64>
     ensures { result ≡ time_of (word_at r.now at 8) }
 {
     let bits = word_at(r, at, 8);
     if TIME_LIMIT_BITS < bits << 1 {
-        Double::Bad
+        None
     } else {
-        Double::Is(f64::from_bits(bits))
+        Some(f64::from_bits(bits))
     }
 }
 
-pub fn duration_at(r: &[u8], at: usize) -> Double
+pub fn duration_at(r: &[u8], at: usize) -> Option<f64>
     ensures { result ≡ duration_of (word_at r.now at 8) }
 {
     let x = f64_from_bits(word_at(r, at, 8));
-    double_if(is_duration(x), x)
+    is_duration(x).then_some(x)
 }
 
-pub fn rate_at(r: &[u8], at: usize) -> Double
+pub fn rate_at(r: &[u8], at: usize) -> Option<f64>
     ensures { result ≡ rate_of (word_at r.now at 8) }
 {
     let x = f64_from_bits(word_at(r, at, 8));
-    double_if(is_rate(x), x)
+    is_rate(x).then_some(x)
 }
 
-pub fn setting_at(r: &[u8], at: usize) -> Single
+pub fn setting_at(r: &[u8], at: usize) -> Option<f32>
     ensures { result ≡ setting_of (word_at r.now at 4) }
 {
     let x = f32_from_bits(word_at(r, at, 4) as u32);
-    if is_setting(x) {
-        Single::Is(x)
-    } else {
-        Single::Bad
-    }
+    is_setting(x).then_some(x)
 }

@@ -4,45 +4,34 @@ ghost use Rattle.records.specs.Records.{record_read, header_of, break_of};
 
 use crate::beatmap::{BreakPeriod, Settings};
 use crate::fields;
-use crate::fields::{Double, Single};
 use crate::record::{Read, Record};
-use rules::refusal;
+use rules::refusal::Rule;
 
+#[tactic(auto, using(rules::proofs::Steps::steps), unfolding(crate::specs::Records::header_of))]
 pub fn read_header(r: &[u8]) -> Read
     ensures { result ≡ record_read (header_of r.now) }
 {
     if r.len() < Settings::SIZE {
-        return Read::Refused(refusal::CUT);
+        return Err(Rule::Cut);
     }
-    let Single::Is(hp) = fields::setting_at(r, 2) else {
-        return Read::Refused(refusal::RANGE);
-    };
-    let Single::Is(od) = fields::setting_at(r, 6) else {
-        return Read::Refused(refusal::RANGE);
-    };
-    let Single::Is(cs) = fields::setting_at(r, 10) else {
-        return Read::Refused(refusal::RANGE);
-    };
-    Read::Good(Record::Header(Settings { hp, od, cs }), Settings::SIZE)
+    let hp = fields::setting_at(r, 2).ok_or(Rule::Range)?;
+    let od = fields::setting_at(r, 6).ok_or(Rule::Range)?;
+    let cs = fields::setting_at(r, 10).ok_or(Rule::Range)?;
+    Ok((Record::Header(Settings { hp, od, cs }), Settings::SIZE))
 }
 
+#[tactic(auto, using(rules::proofs::Steps::steps), unfolding(crate::specs::Records::break_of))]
 pub fn read_break(r: &[u8]) -> Read
     ensures { result ≡ record_read (break_of r.now) }
 {
     if r.len() < BreakPeriod::SIZE {
-        return Read::Refused(refusal::CUT);
+        return Err(Rule::Cut);
     }
-    let Double::Is(start_time) = fields::time_at(r, 2) else {
-        return Read::Refused(refusal::RANGE);
+    let start_time = fields::time_at(r, 2).ok_or(Rule::Range)?;
+    let end_time = fields::time_at(r, 10).ok_or(Rule::Range)?;
+    let period = BreakPeriod {
+        start_time,
+        end_time,
     };
-    let Double::Is(end_time) = fields::time_at(r, 10) else {
-        return Read::Refused(refusal::RANGE);
-    };
-    Read::Good(
-        Record::Break(BreakPeriod {
-            start_time,
-            end_time,
-        }),
-        BreakPeriod::SIZE,
-    )
+    Ok((Record::Break(period), BreakPeriod::SIZE))
 }

@@ -4,14 +4,12 @@ ghost use Rattle.play_state.specs.Play.{hitresults_of};
 ghost use Rattle.records.specs.Records.{record_read, play_of};
 
 use crate::fields;
-use crate::fields::Double;
 use crate::record::{Read, Record};
 use numbers::words::word_at;
-use play_state::{
-    GameMods, Origin, OsuHitResults, Play, Score, has_unknown_flags, origin_of, score_of,
-};
-use rules::refusal;
+use play_state::{GameMods, OsuHitResults, Play, has_unknown_flags, origin_of, score_of};
+use rules::refusal::Rule;
 
+#[tactic(auto, unfolding(play_state::specs::Play::hitresults_of))]
 fn hitresults_of(r: &[u8]) -> OsuHitResults
     ensures { result ≡ hitresults_of r.now }
 {
@@ -26,34 +24,29 @@ fn hitresults_of(r: &[u8]) -> OsuHitResults
     }
 }
 
+#[tactic(auto, using(rules::proofs::Steps::steps), unfolding(crate::specs::Records::play_of))]
 pub fn read_play(r: &[u8]) -> Read
     ensures { result ≡ record_read (play_of r.now) }
 {
     if r.len() < Play::SIZE {
-        return Read::Refused(refusal::CUT);
+        return Err(Rule::Cut);
     }
-    let Origin::Is(origin) = origin_of(word_at(r, 28, 1)) else {
-        return Read::Refused(refusal::PLAY_FIELD);
-    };
-    let Score::Is(legacy_total_score) = score_of(word_at(r, 29, 1), word_at(r, 30, 4) as u32) else {
-        return Read::Refused(refusal::PLAY_FIELD);
-    };
+    let origin = origin_of(word_at(r, 28, 1)).ok_or(Rule::PlayField)?;
+    let legacy_total_score = score_of(word_at(r, 29, 1), word_at(r, 30, 4) as u32).ok_or(
+        Rule::PlayField,
+    )?;
     let flags = word_at(r, 34, 2) as u16;
     if has_unknown_flags(flags) {
-        return Read::Refused(refusal::PLAY_FIELD);
+        return Err(Rule::PlayField);
     }
-    let Double::Is(clock_rate) = fields::rate_at(r, 36) else {
-        return Read::Refused(refusal::PLAY_FIELD);
+    let clock_rate = fields::rate_at(r, 36).ok_or(Rule::PlayField)?;
+    let play = Play {
+        passed_objects: word_at(r, 2, 2) as u16,
+        max_combo: word_at(r, 4, 4) as u32,
+        hitresults: hitresults_of(r),
+        origin,
+        legacy_total_score,
+        mods: GameMods { flags, clock_rate },
     };
-    Read::Good(
-        Record::Play(Play {
-            passed_objects: word_at(r, 2, 2) as u16,
-            max_combo: word_at(r, 4, 4) as u32,
-            hitresults: hitresults_of(r),
-            origin,
-            legacy_total_score,
-            mods: GameMods { flags, clock_rate },
-        }),
-        Play::SIZE,
-    )
+    Ok((Record::Play(play), Play::SIZE))
 }

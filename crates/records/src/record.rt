@@ -2,6 +2,7 @@
 use crate::beatmap::{BreakPeriod, Settings};
 use crate::hit_object::HitObject;
 use play_state::Play;
+use rules::refusal::Rule;
 
 #[derive(Clone, Copy)]
 pub enum Record {
@@ -11,9 +12,5 @@ pub enum Record {
     Play(Play),
 }
 
-// A record and its size in bytes, or the number of its refusal.
-#[derive(Clone, Copy)]
-pub enum Read {
-    Good(Record, usize),
-    Refused(u8),
-}
+// A record and its size in bytes.
+pub type Read = Result<(Record, usize), Rule>;

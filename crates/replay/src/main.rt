@@ -5,7 +5,7 @@
 ghost use Rattle.std.specs.Prelude.{◌≡◌, ◌↔◌, IfOk, IsTrue};
 
 use frames::{read_front, starts_with};
-use listing::{Listed, list_file, list_input};
+use listing::{list_file, list_input};
 use std::io::{Read, Write};
 use std::{fmt, io};
 
@@ -61,11 +61,7 @@ impl From<u8> for Kind {
 // The kind of the next row, if there is one.
 fn read_kind<R: Read>(reader: &mut R) -> Option<Kind> {
     let mut kind = [0u8; 1];
-    if read_front(reader, &mut kind, 1) {
-        Some(Kind::from(kind[0]))
-    } else {
-        None
-    }
+    read_front(reader, &mut kind, 1).then_some(Kind::from(kind[0]))
 }
 
 // Reads a length, and then as many bytes to the front of the space. There are none where the row is cut.
@@ -102,7 +98,7 @@ fn compare<W: Write>(writer: &mut W, text: &[u8], due: &[u8]) -> io::Result<Outc
     Ok(Outcome::Differ)
 }
 
-fn list(kind: Kind, file: &[u8], space: &mut [u8]) -> Listed {
+fn list(kind: Kind, file: &[u8], space: &mut [u8]) -> Option<usize> {
     match kind {
         Kind::RefusedInput => list_input(file, space),
         Kind::RefusedFile | Kind::Listing => list_file(file, space),
@@ -122,7 +118,7 @@ fn replay_row<R: Read, W: Write>(
     let Some(file) = read_bytes(reader, &mut spaces.file) else {
         return Ok(Outcome::Cut);
     };
-    let Listed::Text(count) = list(kind, file, &mut spaces.text) else {
+    let Some(count) = list(kind, file, &mut spaces.text) else {
         return Ok(Outcome::Cut);
     };
     match spaces.text.get(..count) {

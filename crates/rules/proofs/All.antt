@@ -1,11 +1,11 @@
 -- What holds of a checked value where it is good, through the steps of a `do` block.
 use mathlib.Core.Path.{◌≡◌, refl}
 use mathlib.Core.Bool.{Bool, true, false}
-use Prim.Native.Nat.{ℕ}
 use Rattle.rules.specs.Refusals.{Checked, good, refused, ◌>>=◌, ◌>>◌, refuse◌when◌, pick}
+use Rattle.rules.specs.declared.refusal.Rule.{Rule}
 
 pub data All {A : Type 0} (P : A → Type 0) : Checked A → Type 0 where
-  none : {n : ℕ} → All P (refused n)
+  none : {n : Rule} → All P (refused n)
   that : {a : A} → P a → All P (good a)
 
 pub all_bind : {A B : Type 0} {P : A → Type 0} {Q : B → Type 0} (x : Checked A) (f : A → Checked B) → All P x → ((a : A) → P a → All Q (f a)) → All Q (x >>= f)
@@ -18,7 +18,7 @@ unfolding ◌>>=◌
 all_any (refused n) f k = none
 all_any (good a) f k = k a
 
-pub all_when : {B : Type 0} {Q : B → Type 0} (n : ℕ) (b : Bool) (y : Checked B) → (b ≡ false → All Q y) → All Q ((refuse n when b) >> y)
+pub all_when : {B : Type 0} {Q : B → Type 0} (n : Rule) (b : Bool) (y : Checked B) → (b ≡ false → All Q y) → All Q ((refuse n when b) >> y)
 unfolding ◌>>◌ refuse◌when◌
 all_when n true y k = none
 all_when n false y k = k refl

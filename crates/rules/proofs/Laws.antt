@@ -1,5 +1,9 @@
 -- What the proofs share.
-use mathlib.Core.Path.{◌≡◌, refl, sym, ◌∙◌}
+use Rattle.std.specs.Prelude.{Option}
+use Rattle.std.specs.Option.{ok_or}
+use Rattle.rules.specs.declared.refusal.Rule.{Rule}
+use Rattle.rules.specs.Refusals.{Checked}
+use mathlib.Core.Path.{◌≡◌, refl, sym, ap, ◌∙◌}
 use mathlib.Core.Bool.{Bool, true, false, ◌&&◌}
 use Prim.Native.Nat.{ℕ, ◌+◌, ◌-◌, ◌≤◌, ◌<◌}
 use native.Mathlib.Omega.{arith}
@@ -9,6 +13,10 @@ use borrow.Author.Tests.{lt-ltb, le-ltb, ltb-true, ltb-false}
 -- what a call said of its result, at what was found of it
 pub so : {A : Type 0} {r x y : A} → r ≡ x → r ≡ y → x ≡ y
 so p q = sym p ∙ q
+
+-- what `ok_or` gave, at what the definition says of its option
+pub taken : {A : Type 0} {r s : Option A} {x y : Checked A} (n : Rule) → x ≡ ok_or r n → r ≡ s → x ≡ y → ok_or s n ≡ y
+taken n p q t = sym (ap (λ o. ok_or o n) q) ∙ sym p ∙ t
 
 -- two constructors are told apart by an equation of 0 and 1
 pub never : {A : Type 0} → ◌≡◌ {A = ℕ} 0 1 → A

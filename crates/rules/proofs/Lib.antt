@@ -1,2 +1,4 @@
 pub mod Laws
 pub mod All
+pub mod Steps
+pub mod Numbers

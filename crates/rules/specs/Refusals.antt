@@ -1,13 +1,17 @@
 -- Document 01, "What a caller gets": a good call gives its values, a refused call a number. The checks run in order, and the first
 -- refusal stands: a `do` block goes on to it.
-use Rattle.std.specs.Prelude.{ℕ, Bool, true, false}
+use Rattle.std.specs.Prelude.{ℕ, Bool, true, false, Result}
+use Rattle.rules.specs.declared.refusal.Rule.{Rule}
+use Rattle.rules.specs.declared.refusal.Rule.TheVariants as rule
+use Rattle.rules.specs.declared.refusal.Refusal.{Refusal}
+pub use Rattle.std.specs.Prelude.{Ok as good, Err as refused}
 
 infix 5 refuse◌when◌
 infixr 4 ◌>>=◌
 infixr 4 ◌>>◌
-pub data Checked (A : Type 0) : Type 0 where
-  refused : ℕ → Checked A
-  good : A → Checked A
+-- a value, or the rule that its input breaks
+abbrev pub Checked : Type 0 → Type 0
+Checked A = Result A Rule
 
 unfoldable pub ◌>>=◌ : {A B : Type 0} → Checked A → (A → Checked B) → Checked B
 ◌>>=◌ (refused n) f = refused n
@@ -17,7 +21,7 @@ unfoldable pub ◌>>◌ : {A B : Type 0} → Checked A → Checked B → Checked
 ◌>>◌ (refused n) b = refused n
 ◌>>◌ (good a) b = b
 
-unfoldable pub refuse◌when◌ : ℕ → Bool → Checked (Unit {0})
+unfoldable pub refuse◌when◌ : Rule → Bool → Checked (Unit {0})
 refuse n when true = refused n
 refuse n when false = good tt
 
@@ -28,61 +32,91 @@ pick false a b = b
 
 -- ---- document 01, "Returned | Given when, and only when"
 -- "the program's input is above 65,536 bytes (the library has no such limit)"
-abbrev pub INPUT : ℕ
-INPUT = 1
+abbrev pub INPUT : Rule
+INPUT = rule.Input
 
 -- "the input ends inside a record, or one byte is left for a mark"
-abbrev pub CUT : ℕ
-CUT = 2
+abbrev pub CUT : Rule
+CUT = rule.Cut
 
 -- "a mark is unknown or out of order, or the input is empty; in an edit also, checked last, if bytes follow the object's record"
-abbrev pub MARK : ℕ
-MARK = 3
+abbrev pub MARK : Rule
+MARK = rule.Mark
 
 -- "a time, setting or duration is not finite or out of range"
-abbrev pub RANGE : ℕ
-RANGE = 4
+abbrev pub RANGE : Rule
+RANGE = rule.Range
 
 -- "a slider's nested list is wrong"
-abbrev pub NESTED : ℕ
-NESTED = 5
+abbrev pub NESTED : Rule
+NESTED = rule.Nested
 
 -- "a 129th break, an 8,193rd object, or more than 1,000 nested items"
-abbrev pub COUNT : ℕ
-COUNT = 6
+abbrev pub COUNT : Rule
+COUNT = rule.Count
 
 -- "the legacy bonus of all objects is above 2,147,483,647"
-abbrev pub BONUS : ℕ
-BONUS = 7
+abbrev pub BONUS : Rule
+BONUS = rule.Bonus
 
 -- "a play field is out of range"
-abbrev pub PLAY_FIELD : ℕ
-PLAY_FIELD = 8
+abbrev pub PLAY_FIELD : Rule
+PLAY_FIELD = rule.PlayField
 
 -- "a play exceeds its map"
-abbrev pub PLAY_EXCEEDS : ℕ
-PLAY_EXCEEDS = 9
+abbrev pub PLAY_EXCEEDS : Rule
+PLAY_EXCEEDS = rule.PlayExceeds
 
 -- 10 is given by no call: document 02, §3 took it away ("Number 10 and its edge in document 01 go")
 
 -- "the board has fewer than 26 × C words, or the start table fewer numbers than objects"
-abbrev pub ROOM : ℕ
-ROOM = 11
+abbrev pub ROOM : Rule
+ROOM = rule.Room
 
 -- "an edited place is not below the object count"
-abbrev pub PLACE : ℕ
-PLACE = 12
+abbrev pub PLACE : Rule
+PLACE = rule.Place
 
 -- "a board word or start time that the call reads is outside its limits, a combined word is above its limit, or a read's combined k is below
 -- 2 × sliders or its s + f below q"
-abbrev pub BOARD : ℕ
-BOARD = 13
+abbrev pub BOARD : Rule
+BOARD = rule.Board
 
 -- ---- document 02
 -- §1: "a factor out of range or not finite; checked last"
-abbrev pub FACTOR : ℕ
-FACTOR = 14
+abbrev pub FACTOR : Rule
+FACTOR = rule.Factor
 
 -- §2: "more than 64 plays, or fewer outcomes than plays; after the map, before any play"
-abbrev pub HEAT : ℕ
-HEAT = 15
+abbrev pub HEAT : Rule
+HEAT = rule.Heat
+
+-- the number that a caller gets
+abbrev pub number_of : Rule → ℕ
+number_of rule.Input = 1
+number_of rule.Cut = 2
+number_of rule.Mark = 3
+number_of rule.Range = 4
+number_of rule.Nested = 5
+number_of rule.Count = 6
+number_of rule.Bonus = 7
+number_of rule.PlayField = 8
+number_of rule.PlayExceeds = 9
+number_of rule.Room = 11
+number_of rule.Place = 12
+number_of rule.Board = 13
+number_of rule.Factor = 14
+number_of rule.Heat = 15
+
+-- what a refused call answers: the rule, and the offset of the record that breaks it
+abbrev pub refusal_at : Rule → ℕ → Refusal
+refusal_at n at = record { rule = n; offset = at }
+
+-- a value, or what refuses the call
+abbrev pub OrRefusal : Type 0 → Type 0
+OrRefusal A = Result A Refusal
+
+-- what is no record of a file is refused at 0
+abbrev pub at_0 : {A : Type 0} → Checked A → OrRefusal A
+at_0 (refused n) = refused (refusal_at n 0)
+at_0 (good a) = good a

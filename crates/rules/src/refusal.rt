@@ -1,30 +1,70 @@
-// The numbers of the rules of document 01, then of document 02; rules/specs/Refusals says when each is given.
-pub const INPUT: u8 = 1;
+// What refuses an input: a rule of documents 01 and 02, and where the record stands that breaks it.
+ghost use Rattle.std.specs.Prelude.{◌≡◌};
+ghost use Rattle.rules.specs.Refusals.{number_of, refusal_at};
 
-pub const CUT: u8 = 2;
+// rules/specs/Refusals says when each is given.
+#[derive(Clone, Copy, Debug, PartialEq, Eq, Hash)]
+pub enum Rule {
+    Input,
+    Cut,
+    Mark,
+    Range,
+    Nested,
+    Count,
+    Bonus,
+    PlayField,
+    PlayExceeds,
+    Room,
+    Place,
+    Board,
+    Factor,
+    Heat,
+}
 
-pub const MARK: u8 = 3;
+// A refused call: the rule, and the offset of the record that breaks it.
+#[derive(Clone, Copy, Debug, PartialEq, Eq, Hash)]
+pub struct Refusal {
+    pub rule: Rule,
+    pub offset: usize,
+}
 
-pub const RANGE: u8 = 4;
+impl Rule {
+    pub fn at(self, offset: usize) -> Refusal
+        ensures { result ≡ refusal_at self offset }
+    {
+        Refusal { rule: self, offset }
+    }
+}
 
-pub const NESTED: u8 = 5;
+// The rule's number in documents 01 and 02. 10 is given by no call.
+impl From<Rule> for u8 {
+    ghost from_gives = { λ rule n. n ≡ number_of rule };
 
-pub const COUNT: u8 = 6;
+    fn from(rule: Rule) -> u8 {
+        match rule {
+            Rule::Input => 1,
+            Rule::Cut => 2,
+            Rule::Mark => 3,
+            Rule::Range => 4,
+            Rule::Nested => 5,
+            Rule::Count => 6,
+            Rule::Bonus => 7,
+            Rule::PlayField => 8,
+            Rule::PlayExceeds => 9,
+            Rule::Room => 11,
+            Rule::Place => 12,
+            Rule::Board => 13,
+            Rule::Factor => 14,
+            Rule::Heat => 15,
+        }
+    }
+}
 
-pub const BONUS: u8 = 7;
+// What is no record of a file is refused at 0.
+impl From<Rule> for Refusal {
+    ghost from_gives = { λ rule r. r ≡ refusal_at rule 0 };
 
-pub const PLAY_FIELD: u8 = 8;
-
-pub const PLAY_EXCEEDS: u8 = 9;
-
-// 10 is given by no call.
-
-pub const ROOM: u8 = 11;
-
-pub const PLACE: u8 = 12;
-
-pub const BOARD: u8 = 13;
-
-pub const FACTOR: u8 = 14;
-
-pub const HEAT: u8 = 15;
+    fn from(rule: Rule) -> Refusal {
+        rule.at(0)
+    }
+}

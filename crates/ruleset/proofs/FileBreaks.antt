@@ -1,32 +1,28 @@
 -- The breaks of a file stand behind its header, 18 bytes each: what was read of the file so far keeps this. Assumes nothing.
+use Rattle.std.specs.Prelude.{Some, None}
 use Rattle.std.proofs.Common.{◌≡◌, ℕ, zero, suc, ◌+◌, ◌*◌, ◌<◌, ◌≤◌, Bool, true, false, ◌&&◌, eqb, ltb, leb, List, [], ◌∷◌, ◌++◌, length, drop, sym, refl, ap, ◌∙◌, arith, ltb-true, eqb-true, leb-true}
 use borrow.Author.Tests.{not-false}
 use lib.Ieee.{binary64, of_bits, neg, le}
 use Rattle.numbers.specs.Words.{word_at}
 use Rattle.numbers.proofs.words.Laws.{word_at-drop}
-use Rattle.rules.specs.Refusals.{good, pick}
+use Rattle.rules.specs.Refusals.{good, pick, CUT, MARK, COUNT, BONUS, PLAY_FIELD}
 use Rattle.records.specs.Fields.{timed, time_of, time_limit}
 use Rattle.records.specs.Records.{Content, header, break, object, play, header_of, break_of, play_of, object_of, circle_of, slider_of, spinner_of, CI, SL, SP}
 use Rattle.map_file.specs.Order.{MH, BR, PL, rank_of, in_order, body_of, record_of}
 use Rattle.map_file.specs.File.{File, counts_of, with_record, nothing_read}
 use Rattle.records.specs.declared.beatmap.BreakPeriod.{BreakPeriod}
-use Rattle.records.specs.declared.fields.Double.TheVariants as double
 use Rattle.map_file.specs.declared.file.Counts.{Counts}
 use Rattle.rules.proofs.All.{All, none, that, all_bind, all_any, all_when, all_pick, all_out}
 use Rattle.map_file.proofs.Reading.{found_at, length_snoc}
-use Rattle.ruleset.specs.Drain.{breaks_from, breaks_in}
-use Rattle.ruleset.proofs.Breaks.{between}
+use Rattle.ruleset.specs.Drain.{break_at, breaks_from, breaks_in}
 
 -- ---- one record
 pub time_is : (b : ℕ) → All (λ x. x ≡ of_bits binary64 b) (timed (time_of b))
 time_is b = go (le (neg time_limit) (of_bits binary64 b) && le (of_bits binary64 b) time_limit)
   where
-    go : (t : Bool) → All (λ x. x ≡ of_bits binary64 b) (timed (pick t (double.Is (of_bits binary64 b)) double.Bad))
+    go : (t : Bool) → All (λ x. x ≡ of_bits binary64 b) (timed (pick t (Some (of_bits binary64 b)) None))
     go true = that refl
     go false = none
-
-abbrev break_at : List ℕ → ℕ → BreakPeriod
-break_at s at = between (of_bits binary64 (word_at s (at + 2) 8)) (of_bits binary64 (word_at s (at + 10) 8))
 
 -- the mark, the size and the times of a header or a break
 abbrev Marked : List ℕ → ℕ → Content → ℕ → Type 0
@@ -38,17 +34,17 @@ Marked r m (play p) n = Unit
 object_marked : (r : List ℕ) (m : ℕ) → All (λ f. Marked r m f.0 f.1) (object_of r m)
 unfolding object_of circle_of slider_of spinner_of
 object_marked r m =
-    all_pick (eqb m CI) (λ _. all_when 2 _ _ (λ _. all_any _ _ (λ a. that tt))) (λ _.
-    all_pick (eqb m SL) (λ _. all_when 2 _ _ (λ _. all_any _ _ (λ a. all_when 6 _ _ (λ _. all_when 2 _ _ (λ _. all_any _ _ (λ is. that tt)))))) (λ _.
-    all_pick (eqb m SP) (λ _. all_when 2 _ _ (λ _. all_any _ _ (λ a. all_any _ _ (λ b. that tt)))) (λ _. none)))
+    all_pick (eqb m CI) (λ _. all_when CUT _ _ (λ _. all_any _ _ (λ a. that tt))) (λ _.
+    all_pick (eqb m SL) (λ _. all_when CUT _ _ (λ _. all_any _ _ (λ a. all_when COUNT _ _ (λ _. all_when CUT _ _ (λ _. all_any _ _ (λ is. that tt)))))) (λ _.
+    all_pick (eqb m SP) (λ _. all_when CUT _ _ (λ _. all_any _ _ (λ a. all_any _ _ (λ b. that tt)))) (λ _. none)))
 
 body_marked : (r : List ℕ) (m : ℕ) → All (λ f. Marked r m f.0 f.1) (body_of r m)
 unfolding body_of header_of break_of play_of
 body_marked r m =
-    all_pick (eqb m MH) (λ e. all_when 2 _ _ (λ _. all_any _ _ (λ hp. all_any _ _ (λ od. all_any _ _ (λ cs. that (eqb-true m MH e, refl)))))) (λ _.
-    all_pick (eqb m BR) (λ e. all_when 2 _ _ (λ _.
+    all_pick (eqb m MH) (λ e. all_when CUT _ _ (λ _. all_any _ _ (λ hp. all_any _ _ (λ od. all_any _ _ (λ cs. that (eqb-true m MH e, refl)))))) (λ _.
+    all_pick (eqb m BR) (λ e. all_when CUT _ _ (λ _.
     all_bind _ _ (time_is (word_at r 2 8)) (λ a p. all_bind _ _ (time_is (word_at r 10 8)) (λ b q. that (eqb-true m BR e, refl, rw (p, q)))))) (λ _.
-    all_pick (eqb m PL) (λ _. all_when 2 _ _ (λ _. all_any _ _ (λ o. all_any _ _ (λ s. all_when 8 _ _ (λ _. all_any _ _ (λ x. that tt)))))) (λ _. object_marked r m)))
+    all_pick (eqb m PL) (λ _. all_when CUT _ _ (λ _. all_any _ _ (λ o. all_any _ _ (λ s. all_when PLAY_FIELD _ _ (λ _. all_any _ _ (λ x. that tt)))))) (λ _. object_marked r m)))
 
 -- and where they stand in the order
 abbrev pub Placed : List ℕ → ℕ → Content → ℕ → Type 0
@@ -70,8 +66,8 @@ placed r last m (play p) n e h = tt
 pub record_placed : (r : List ℕ) (c : Counts) → All (λ f. Placed r c.last f.0 f.1) (record_of r c)
 unfolding record_of
 record_placed r c =
-    all_when 2 _ _ (λ _. all_when 3 _ _ (λ order. all_when 6 _ _ (λ _.
-    all_bind (body_of r (word_at r 0 2)) _ (body_marked r (word_at r 0 2)) (λ f h. all_when 7 _ _ (λ _.
+    all_when CUT _ _ (λ _. all_when MARK _ _ (λ order. all_when COUNT _ _ (λ _.
+    all_bind (body_of r (word_at r 0 2)) _ (body_marked r (word_at r 0 2)) (λ f h. all_when BONUS _ _ (λ _.
     that (placed r c.last (word_at r 0 2) f.0 f.1 (not-false _ order) h))))))
 
 -- ---- what was read so far

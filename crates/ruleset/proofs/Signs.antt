@@ -1,5 +1,5 @@
--- Sums, differences and quotients of signed numbers stay small, and a word reads back the number that it holds. Assumes nothing.
-use Rattle.std.proofs.Common.{◌≡◌, ℕ, zero, suc, ◌+◌, ◌-◌, ◌/◌, ◌^◌, ◌<◌, ◌≤◌, Bool, true, false, cond, ltb, ℤ, pos, negsuc, ◌+ℤ◌, ◌-ℤ◌, neg_ℤ, ap, ◌∙◌, arith, w32, w64, to_z, of_z}
+-- Sums, differences and quotients of signed numbers stay small. Assumes nothing.
+use Rattle.std.proofs.Common.{◌≡◌, ℕ, zero, suc, ◌+◌, ◌-◌, ◌/◌, ◌^◌, ◌<◌, ◌≤◌, Bool, true, false, cond, ltb, ℤ, pos, negsuc, ◌+ℤ◌, ◌-ℤ◌, neg_ℤ, arith, w64, to_z, of_z}
 use borrow.Author.Rules.{sfits_of}
 use lib.IntN.{sub_ℕ}
 use lib.Signed.{mag, quot_z}
@@ -30,27 +30,6 @@ pub mag_quot : (z : ℤ) → mag (quot_z z (pos 1000)) ≤ mag z + 1
 mag_quot (pos n) = omega arith
 mag_quot (negsuc n) = omega (arith, mag_neg (pos (suc n / 1000)))
 
--- a number of 64 bits, and one of 32 that was widened
+-- a word of 64 bits reads back a number that fits
 pub kept : (z : ℤ) → mag z < 2 ^ 63 → to_z w64 (of_z w64 z) ≡ z
 kept z h = to_z-of_z w64 z (sfits_of h)
-
-pub narrow : (z : ℤ) → mag z < 2 ^ 31 → to_z w32 (of_z w32 z) ≡ z
-narrow z h = to_z-of_z w32 z (sfits_of h)
-
-pub widened : (z : ℤ) → mag z < 2 ^ 31 → to_z w64 (of_z w64 (to_z w32 (of_z w32 z))) ≡ z
-widened z h = ap (λ (x : ℤ). to_z w64 (of_z w64 x)) (narrow z h) ∙ kept z (omega arith)
-
--- an operation on words is the operation on the numbers, where the result is small
-pub sum_of : (a b : ℤ) → mag a < 2 ^ 61 → mag b < 2 ^ 61 → to_z w64 (of_z w64 (to_z w64 (of_z w64 a) +ℤ to_z w64 (of_z w64 b))) ≡ a +ℤ b
-sum_of a b h k = simp (kept a (omega arith), kept b (omega arith)) (kept (a +ℤ b) (omega (arith, mag_add a b)))
-
-pub difference : (a b : ℤ) → mag a < 2 ^ 61 → mag b < 2 ^ 61 → to_z w64 (of_z w64 (to_z w64 (of_z w64 a) -ℤ to_z w64 (of_z w64 b))) ≡ a -ℤ b
-difference a b h k = simp (kept a (omega arith), kept b (omega arith)) (kept (a -ℤ b) (omega (arith, mag_sub a b)))
-
-pub narrow_difference : (a b : ℤ) → mag a < 2 ^ 31 → mag b < 2 ^ 31
-    → to_z w64 (of_z w64 (to_z w64 (of_z w64 (to_z w32 (of_z w32 a))) -ℤ to_z w64 (of_z w64 (to_z w32 (of_z w32 b))))) ≡ a -ℤ b
-narrow_difference a b h k = simp (widened a h, widened b k) (kept (a -ℤ b) (omega (arith, mag_sub a b)))
-
-pub quotient : (a b : ℤ) → mag a < 2 ^ 61 → mag b < 2 ^ 61
-    → to_z w64 (of_z w64 (quot_z (to_z w64 (of_z w64 (to_z w64 (of_z w64 a) -ℤ to_z w64 (of_z w64 b)))) (pos 1000))) ≡ quot_z (a -ℤ b) (pos 1000)
-quotient a b h k = simp (difference a b h k) (kept (quot_z (a -ℤ b) (pos 1000)) (omega (arith, mag_sub a b, mag_quot (a -ℤ b))))

@@ -46,11 +46,14 @@ breaks_of [] = []
 breaks_of (a ∷ []) = []
 breaks_of (a ∷ b ∷ xs) = record { start_time = a; end_time = b } ∷ breaks_of xs
 
--- the break records of a map file from an offset on; the first stands behind the header
+-- the break record at an offset of a map file
+abbrev pub break_at : List ℕ → ℕ → BreakPeriod
+break_at s at = record { start_time = from_bits binary64 (word_at s (at + 2) 8); end_time = from_bits binary64 (word_at s (at + 10) 8) }
+
+-- break records one after the other from an offset on; the first stands behind the header
 unfoldable pub breaks_from : List ℕ → ℕ → ℕ → List BreakPeriod
 breaks_from s at zero = []
-breaks_from s at (suc n) =
-    record { start_time = from_bits binary64 (word_at s (at + 2) 8); end_time = from_bits binary64 (word_at s (at + 10) 8) } ∷ breaks_from s (at + break_size) n
+breaks_from s at (suc n) = break_at s at ∷ breaks_from s (at + break_size) n
 
 abbrev pub breaks_in : List ℕ → ℕ → List BreakPeriod
 breaks_in s count = breaks_from s header_size count

@@ -29,25 +29,22 @@ impl HitResult {
         ensures { result ≡ base_score self }
     {
         match self {
-            HitResult::SmallTickHit => 10,
+            HitResult::SmallTickHit | HitResult::SmallBonus => 10,
             HitResult::LargeTickHit => 30,
-            HitResult::SliderTailHit => 150,
-            HitResult::Meh => 50,
+            HitResult::Meh | HitResult::LargeBonus => 50,
             HitResult::Ok => 100,
+            HitResult::SliderTailHit => 150,
             HitResult::Good => 200,
             // A Perfect gives no more points than a Great.
-            HitResult::Great => 300,
-            HitResult::Perfect => 300,
-            HitResult::SmallBonus => 10,
-            HitResult::LargeBonus => 50,
-            HitResult::None => 0,
-            HitResult::Miss => 0,
-            HitResult::SmallTickMiss => 0,
-            HitResult::LargeTickMiss => 0,
-            HitResult::IgnoreMiss => 0,
-            HitResult::IgnoreHit => 0,
-            HitResult::ComboBreak => 0,
-            HitResult::LegacyComboIncrease => 0,
+            HitResult::Great | HitResult::Perfect => 300,
+            HitResult::None
+            | HitResult::Miss
+            | HitResult::SmallTickMiss
+            | HitResult::LargeTickMiss
+            | HitResult::IgnoreMiss
+            | HitResult::IgnoreHit
+            | HitResult::ComboBreak
+            | HitResult::LegacyComboIncrease => 0,
         }
     }
 }

@@ -1,8 +1,10 @@
 // The length of a map without its breaks, and the multiplier from it.
-ghost use Rattle.std.specs.Prelude.{◌≡◌, ◌+◌, ◌*◌, ◌^◌, ◌<◌, ◌≤◌, length, ◌+ℤ◌};
+ghost use Rattle.std.specs.Prelude.{◌≡◌, ◌+◌, ◌*◌, ◌^◌, ◌<◌, ◌≤◌, List, length};
 ghost use Rattle.std.specs.Int.Signed.{mag};
-ghost use Rattle.rules.specs.Limits.{max_breaks};
-ghost use Rattle.ruleset.specs.Drain.{length_of, breaks_length, breaks_of, breaks_in, drain_of};
+ghost use Rattle.rules.specs.Limits.{max_breaks, header_size, break_size};
+ghost use Rattle.std.specs.Iterator.{AlwaysYields, UpTo};
+ghost use Rattle.records.specs.declared.beatmap.BreakPeriod.{BreakPeriod};
+ghost use Rattle.ruleset.specs.Drain.{length_of, breaks_length, breaks_of, break_at, breaks_in, drain_of};
 ghost use Rattle.ruleset.specs.Stars.{SettingsIn, multiplier_of};
 
 use crate::ruleset_ext::calculate_difficulty_peppy_stars;
@@ -18,12 +20,20 @@ pub fn length_between(start: f64, end: f64) -> i64
     round_ties_even_i32(end) as i64 - round_ties_even_i32(start) as i64
 }
 
-// The length of the breaks so far and of one more.
-fn add_break(total: i64, start: f64, end: f64) -> i64
-    requires { mag total < 2 ^ 41 }
-    ensures { (result ≡ total +ℤ length_of start end) × (mag result ≤ mag total + 2 ^ 34) }
+// The length of breaks, until the first whose end is not before the last start.
+fn len_before<I: Iterator<Item = BreakPeriod> + Drop>(breaks: I, last_start: f64) -> i64
+    requires { I.can_next breaks × UpTo (I.remaining breaks) max_breaks }
+    ensures { ((periods : List BreakPeriod) → AlwaysYields I.next_gives (λ b. b) breaks periods → result ≡ breaks_length last_start periods) × (mag result ≤ 2 ^ 41) }
 {
-    total + length_between(start, end)
+    let mut total: i64 = 0;
+    for period in breaks {
+        if period.end_time < last_start {
+            total += length_between(period.start_time, period.end_time);
+        } else {
+            return total;
+        }
+    }
+    total
 }
 
 // The length of breaks that are given as start, end, start, end; an odd number at the end is left out.
@@ -31,41 +41,31 @@ pub fn break_len(breaks: &[f64], last_start: f64) -> i64
     requires { length breaks.now ≤ 2 * max_breaks }
     ensures { (result ≡ breaks_length last_start (breaks_of breaks.now)) × (mag result ≤ 2 ^ 41) }
 {
-    let mut total: i64 = 0;
-    let mut i = 0;
-    while i + 1 < breaks.len() {
-        let start = breaks[i];
-        let end = breaks[i + 1];
-        if end < last_start {
-            total = add_break(total, start, end);
-        } else {
-            return total;
-        }
-        i += 2;
-    }
-    total
+    let periods = breaks.chunks_exact(2).map(|pair| BreakPeriod {
+        start_time: pair[0],
+        end_time: pair[1],
+    });
+    len_before(periods, last_start)
 }
 
-// The length of the first `count` breaks of a map file, whose records follow the header.
+// The break at a place of a map file, whose records follow the header.
+fn break_at(s: &[u8], place: u64) -> BreakPeriod
+    requires { place < max_breaks }
+    ensures { result ≡ break_at s.now (header_size + break_size * place) }
+{
+    let at = Settings::SIZE + place as usize * BreakPeriod::SIZE;
+    BreakPeriod {
+        start_time: f64_from_bits(word_at(s, at + 2, 8)),
+        end_time: f64_from_bits(word_at(s, at + 10, 8)),
+    }
+}
+
+// The length of the first `count` breaks of a map file.
 pub fn break_len_in(s: &[u8], count: u64, last_start: f64) -> i64
     requires { count ≤ max_breaks }
     ensures { (result ≡ breaks_length last_start (breaks_in s.now count)) × (mag result ≤ 2 ^ 41) }
 {
-    let mut total: i64 = 0;
-    let mut at = Settings::SIZE;
-    let mut i: u64 = 0;
-    while i < count {
-        let start = f64_from_bits(word_at(s, at + 2, 8));
-        let end = f64_from_bits(word_at(s, at + 10, 8));
-        if end < last_start {
-            total = add_break(total, start, end);
-        } else {
-            return total;
-        }
-        at += BreakPeriod::SIZE;
-        i += 1;
-    }
-    total
+    len_before((0..count).map(|place| break_at(s, place)), last_start)
 }
 
 // The seconds from the first to the last start, without the breaks, cut toward zero.

@@ -1,11 +1,12 @@
 -- A play that is put after its map in the file gets there what it gets beside the map: its record has 8 for the same fields, and is the file's
 -- only play else.
+use Rattle.rules.specs.declared.refusal.Rule.{Rule}
 use mathlib.Core.Path.{◌≡◌, refl, sym, ap, ap₂, ◌∙◌}
 use mathlib.Core.Bool.{Bool, true, false}
 use mathlib.Core.List.{List, [], ◌∷◌, ◌++◌, append-nil}
 use Prim.Native.Nat.{ℕ}
 use lib.ListN.{length}
-use Rattle.rules.specs.Refusals.{Checked, good, refused, ◌>>◌, refuse◌when◌}
+use Rattle.rules.specs.Refusals.{Checked, good, refused, ◌>>◌, refuse◌when◌, PLAY_FIELD}
 use Rattle.records.specs.Records.{play, play_of}
 use Rattle.map_file.specs.File.{Map, file_of}
 use Rattle.play_state.specs.declared.Play.{Play}
@@ -29,7 +30,7 @@ alone_is m at (refused n) = refl
 alone_is m at (good s) = refl
 
 module _ (m : Map) where
-  refused_scores : (n : ℕ) (s : List ℕ) → RefusedBehind m n s → scores_of (file_of s) ≡ refusal n (length (map_file m))
+  refused_scores : (n : Rule) (s : List ℕ) → RefusedBehind m n s → scores_of (file_of s) ≡ refusal n (length (map_file m))
   refused_scores n s k =
       ap scores_of k.read
       ∙ ap (λ (l : List (ℕ × Play)). then (play_scores k.file.map l) (λ ss. refusal n (length (map_file m)))) k.no_plays
@@ -41,7 +42,7 @@ module _ (m : Map) where
       ∙ ap₂ (λ (x : Map) (l : List (ℕ × Play)). then (play_scores x l) (λ ss. values (record { map = x; plays = ss }))) k.map_back k.plays_back
       ∙ rw (scores_one m (length (map_file m)) p) (alone_is m (length (map_file m)) (play_score_on m p))
 
-record_read_lem : (p : Play) → PlaySized p → play_of (play_bytes p ++ []) ≡ ((refuse 8 when mods_bad p.mods) >> good (play p, 44))
+record_read_lem : (p : Play) → PlaySized p → play_of (play_bytes p ++ []) ≡ ((refuse PLAY_FIELD when mods_bad p.mods) >> good (play p, 44))
 unfolding mods_bad
 record_read_lem p v = play_read p [] v
 
@@ -53,7 +54,7 @@ unfolding given_score ◌>>◌ refuse◌when◌
 behind-map m p w v =
     ap (λ (l : List ℕ). scores_of (file_of (map_file m ++ l))) (sym (append-nil (play_bytes p))) ∙ go (mods_bad p.mods) (record_read_lem p v)
   where
-    go : (b : Bool) → play_of (play_bytes p ++ []) ≡ ((refuse 8 when b) >> good (play p, 44))
-        → scores_of (file_of (map_file m ++ (play_bytes p ++ []))) ≡ alone m (length (map_file m)) ((refuse 8 when b) >> play_score_on m p)
-    go true e = refused_scores m 8 (map_file m ++ (play_bytes p ++ [])) (refused_play m p [] 8 w e)
+    go : (b : Bool) → play_of (play_bytes p ++ []) ≡ ((refuse PLAY_FIELD when b) >> good (play p, 44))
+        → scores_of (file_of (map_file m ++ (play_bytes p ++ []))) ≡ alone m (length (map_file m)) ((refuse PLAY_FIELD when b) >> play_score_on m p)
+    go true e = refused_scores m PLAY_FIELD (map_file m ++ (play_bytes p ++ [])) (refused_play m p [] PLAY_FIELD w e)
     go false e = play_scores_lem m p (map_file m ++ (play_bytes p ++ [])) (last-play m p w e)

@@ -1,4 +1,5 @@
 -- The scores of plays one after the other: those of a list, then those of what follows it.
+use Rattle.rules.specs.declared.refusal.Rule.{Rule}
 use mathlib.Core.Path.{◌≡◌, refl, ap, ◌∙◌}
 use mathlib.Core.List.{List, [], ◌∷◌, ◌++◌}
 use Prim.Native.Nat.{ℕ, zero, suc, ◌-◌}
@@ -49,10 +50,10 @@ module _ (m : Map) (at : ℕ) (p : Play) (ps : List (ℕ × Play)) (ss : List Pl
   pub scores_more : (s : PlayScore) → play_score_on m p ≡ good s → play_scores m (ps ++ ((at, p) ∷ [])) ≡ values (ss ++ (s ∷ []))
   scores_more s q = rw (scores_append m ps ((at, p) ∷ []), e, scores_one m at p, q)
 
-  pub scores_refused : (n : ℕ) → play_score_on m p ≡ refused n → play_scores m (ps ++ ((at, p) ∷ [])) ≡ refusal n at
+  pub scores_refused : (n : Rule) → play_score_on m p ≡ refused n → play_scores m (ps ++ ((at, p) ∷ [])) ≡ refusal n at
   scores_refused n q = rw (scores_append m ps ((at, p) ∷ []), e, scores_one m at p, q)
 
-pub refused_more : (m : Map) (ps qs : List (ℕ × Play)) (n at : ℕ) → play_scores m ps ≡ refusal n at → play_scores m (ps ++ qs) ≡ refusal n at
+pub refused_more : (m : Map) (ps qs : List (ℕ × Play)) (n : Rule) (at : ℕ) → play_scores m ps ≡ refusal n at → play_scores m (ps ++ qs) ≡ refusal n at
 refused_more m ps qs n at e = rw (scores_append m ps qs, e)
 
 -- ---- the wanted play

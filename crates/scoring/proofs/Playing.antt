@@ -1,4 +1,5 @@
 -- What a loop over the plays of a file keeps: the scores of the plays read so far are those of the definition.
+use Rattle.rules.specs.declared.refusal.Rule.{Rule}
 use mathlib.Core.Path.{◌≡◌, refl, sym, ap, ◌∙◌, subst}
 use mathlib.Core.Bool.{Bool, true, false}
 use mathlib.Core.List.{List, [], ◌∷◌, ◌++◌}
@@ -7,7 +8,7 @@ use native.Mathlib.Omega.{arith}
 use borrow.Author.Tests.{ne_eqb, eqb-true}
 use lib.Dec.{ltb}
 use lib.ListN.{length, drop}
-use Rattle.rules.specs.Refusals.{Checked, good, refused, pick}
+use Rattle.rules.specs.Refusals.{Checked, good, refused, pick, INPUT}
 use Rattle.records.specs.Records.{Content, header, break, object, play, FoundRecord}
 use Rattle.map_file.specs.File.{File, Map as MapData, Result, refused_at, with_record, follow, ended, file_from, file_of}
 use Rattle.map_file.proofs.Room.{place_of}
@@ -17,44 +18,41 @@ use Rattle.map_reader.specs.Map.{MapIs}
 use Rattle.map_reader.specs.declared.map.Map.{Map}
 use Rattle.map_reader.proofs.Passed.{attributes_passed}
 use Rattle.play_reader.specs.Plays.{play_in}
-use Rattle.play_reader.specs.declared.PlayRead.TheVariants as read
 use Rattle.play_reader.proofs.Playing.{ReadTo, read_start, read_more, read_stop, read_end, reached_end}
 use Rattle.simulator.specs.declared.attributes.ScoreAttributes.{ScoreAttributes}
-use Rattle.play_score.specs.PlayRules.{play_score, scored_of}
+use Rattle.play_score.specs.PlayRules.{play_score}
 use Rattle.play_score.specs.declared.PlayScore.{PlayScore}
-use Rattle.play_score.specs.declared.Scored.TheVariants as scored
 use Rattle.scoring.specs.Scores.{Outcome, refusal, values, then, play_score_on, play_scores, scores_of}
 use Rattle.scoring.specs.View.{wanted_of, wanted_after, passes_as_many, Playing, Attributed, checked_of}
 use Rattle.scoring.specs.declared.plays.Wanted.{Wanted}
 use Rattle.scoring.specs.declared.plays.Wanted.TheVariants as wanted
-use Rattle.scoring.specs.declared.plays.Checked.TheVariants as checked
 use Rattle.scoring.proofs.Lists.{scores_none, scores_more, scores_refused, refused_more, wanted_more}
 use Rattle.rules.proofs.Laws.{never}
 
 -- ---- a refused play refuses the file, whatever follows: behind it only plays can be read, and they change neither the map nor what was refused
-record Ended (f : File) (n at : ℕ) : Type 0 where
+record Ended (f : File) (n : Rule) (at : ℕ) : Type 0 where
   late : f.last ≡ 4
   refuses : play_scores f.map f.plays ≡ refusal n at
 
-abbrev Refuses : ℕ → ℕ → Result → Type 0
+abbrev Refuses : Rule → ℕ → Result → Type 0
 Refuses n at r = scores_of r ≡ refusal n at
 
-stop_refuses : (f : File) (n at k o : ℕ) → Ended f n at → Refuses n at (refused_at k o f)
+stop_refuses : (f : File) (n : Rule) (at : ℕ) (k : Rule) (o : ℕ) → Ended f n at → Refuses n at (refused_at k o f)
 stop_refuses f n at k o e = rw e.refuses
 
-end_refuses : (f : File) (n at : ℕ) → Ended f n at → Refuses n at (ended f)
+end_refuses : (f : File) (n : Rule) (at : ℕ) → Ended f n at → Refuses n at (ended f)
 end_refuses f n at e = simp (ne_eqb f.last 0 (λ z. (let l = e.late in omega (arith, l, z)))) (rw e.refuses)
 
-ended_more : (f : File) (n at : ℕ) (x : Content) (size : ℕ) → f.last ≤ place_of x → Ended f n at → Ended (with_record f (x, size)) n at
+ended_more : (f : File) (n : Rule) (at : ℕ) (x : Content) (size : ℕ) → f.last ≤ place_of x → Ended f n at → Ended (with_record f (x, size)) n at
 unfolding with_record
 ended_more f n at (header s) size h e = never (let l = e.late in omega (arith, l, h))
 ended_more f n at (break b) size h e = never (let l = e.late in omega (arith, l, h))
 ended_more f n at (object o) size h e = never (let l = e.late in omega (arith, l, h))
 ended_more f n at (play p) size h e = record { late = refl; refuses = refused_more f.map f.plays ((f.at, p) ∷ []) n at e.refuses }
 
-from_refuses : (fuel : ℕ) (s : List ℕ) (f : File) (n at : ℕ) → Ended f n at → Refuses n at (file_from fuel s f)
+from_refuses : (fuel : ℕ) (s : List ℕ) (f : File) (n : Rule) (at : ℕ) → Ended f n at → Refuses n at (file_from fuel s f)
 unfolding file_from
-from_refuses zero s f n at e = stop_refuses f n at 0 0 e
+from_refuses zero s f n at e = stop_refuses f n at INPUT 0 e
 from_refuses (suc fuel) s f n at e =
     go (λ r q. from_refuses fuel s (with_record f r) n at (ended_more f n at r.0 r.1 (found_ordered s f r q) e)) (ltb f.at (length s)) (found_at s f) refl
   where
@@ -89,19 +87,19 @@ module _ {s : List ℕ} {m : Map} {at : ℕ} {w : Wanted} {i : ℕ} (k : Playing
 
   module _ (h : at < length s) where
     -- a record that is refused
-    pub playing_cut : (n : ℕ) → read.Refused n ≡ play_in (drop at s) → scores_of (file_of s) ≡ refusal n at
+    pub playing_cut : (n : Rule) → refused n ≡ play_in (drop at s) → scores_of (file_of s) ≡ refusal n at
     playing_cut n e = rw (read_stop k.to h n e, k.same)
 
-    module _ (q : Play) (e : read.Is q ≡ play_in (drop at s)) where
+    module _ (q : Play) (e : good q ≡ play_in (drop at s)) where
       abbrev next : ReadTo s k.p m (at + 44)
       next = read_more k.to h q e
 
       -- a play that is refused
-      pub playing_refused : (n : ℕ) → scored.Refused n ≡ scored_of (play_score_on map_of q) → scores_of (file_of s) ≡ refusal n at
+      pub playing_refused : (n : Rule) → refused n ≡ (play_score_on map_of q) → scores_of (file_of s) ≡ refusal n at
       unfolding with_record read_more
-      playing_refused n r = go (play_score_on k.to.file.map q) refl (r ∙ ap (λ (x : MapData). scored_of (play_score_on x q)) (sym here_map))
+      playing_refused n r = go (play_score_on k.to.file.map q) refl (r ∙ ap (λ (x : MapData). (play_score_on x q)) (sym here_map))
         where
-          go : (x : Checked PlayScore) → play_score_on k.to.file.map q ≡ x → scored.Refused n ≡ scored_of x → scores_of (file_of s) ≡ refusal n at
+          go : (x : Checked PlayScore) → play_score_on k.to.file.map q ≡ x → refused n ≡ x → scores_of (file_of s) ≡ refusal n at
           go (good y) p r = never (cc)
           go (refused j) p r =
               let same : n ≡ j = cc in
@@ -110,23 +108,23 @@ module _ {s : List ℕ} {m : Map} {at : ℕ} {w : Wanted} {i : ℕ} (k : Playing
               let all = scores_refused f.map f.at q f.plays k.scores k.same j p in
               subst (Refuses j f.at) on.rest (from_refuses on.fuel s next.file j f.at (record { late = refl; refuses = all }))
               ∙ ap (refusal j) k.to.here
-              ∙ ap (λ (a : ℕ). refusal a at) (sym same)
+              ∙ ap (λ (a : Rule). refusal a at) (sym same)
 
-      pub playing_more : (y : PlayScore) → scored.Score y ≡ scored_of (play_score_on map_of q) → (v : Wanted) → v ≡ wanted_after w y → Playing s m (at + 44) v i
+      pub playing_more : (y : PlayScore) → good y ≡ (play_score_on map_of q) → (v : Wanted) → v ≡ wanted_after w y → Playing s m (at + 44) v i
       unfolding with_record read_more
       playing_more y r v c = record {
         p = k.p;
         to = next;
         scores = k.scores ++ (y ∷ []);
-        same = scores_more k.to.file.map k.to.file.at q k.to.file.plays k.scores k.same y (is_good_lem (play_score_on k.to.file.map q) (r ∙ ap (λ (x : MapData). scored_of (play_score_on x q)) (sym here_map)));
+        same = scores_more k.to.file.map k.to.file.at q k.to.file.plays k.scores k.same y (is_good_lem (play_score_on k.to.file.map q) (r ∙ ap (λ (x : MapData). (play_score_on x q)) (sym here_map)));
         wanted = c ∙ ap (λ (x : Wanted). wanted_after x y) k.wanted ∙ wanted_more i k.scores y;
       }
         where
-          is_good_lem : (x : Checked PlayScore) → scored.Score y ≡ scored_of x → x ≡ good y
+          is_good_lem : (x : Checked PlayScore) → good y ≡ x → x ≡ good y
           is_good_lem (refused n) r = never (cc)
           is_good_lem (good z) r = let same : z ≡ y = cc in ap good same
 
-      pub more_scores : (y : PlayScore) (r : scored.Score y ≡ scored_of (play_score_on map_of q)) (v : Wanted) (c : v ≡ wanted_after w y)
+      pub more_scores : (y : PlayScore) (r : good y ≡ (play_score_on map_of q)) (v : Wanted) (c : v ≡ wanted_after w y)
           → (playing_more y r v c).scores ≡ k.scores ++ (y ∷ [])
       unfolding playing_more
       more_scores y r v c = refl
@@ -139,18 +137,18 @@ module _ {s : List ℕ} {m : Map} {at : ℕ} {w : Wanted} {i : ℕ} (k : Playing
         ∙ ap (λ (x : Outcome (List PlayScore)). then x (λ ss. values (record { map = k.to.file.map; plays = ss }))) k.same
         ∙ ap (λ (x : MapData). values (record { map = x; plays = k.scores })) here_map
 
-    pub playing_end : checked.Good w ≡ checked_of i (scores_of (file_of s))
-    playing_end = ap checked.Good k.wanted ∙ sym (ap (checked_of i) playing_scores)
+    pub playing_end : good w ≡ checked_of i (scores_of (file_of s))
+    playing_end = ap good k.wanted ∙ sym (ap (checked_of i) playing_scores)
 
 -- ---- a play that passed as many objects as the attributes are of
 pub same_passed : (s : List ℕ) (p : ℕ) (m : Map) (a : ScoreAttributes) (k : Attributed s p m a) (q : Play) → passes_as_many q p m.objects ≡ true
-    → scored_of (play_score q a) ≡ scored_of (play_score_on k.map.file.map q)
+    → (play_score q a) ≡ (play_score_on k.map.file.map q)
 same_passed s p m a k q e =
     let n = k.map.objects in
     let l = length k.map.file.map.objects in
     let same : min p l ≡ min q.passed_objects l =
     ap (λ (x : ℕ). min p x) (sym n) ∙ sym (eqb-true _ _ e) ∙ ap (λ (x : ℕ). min q.passed_objects x) n in
-    ap (λ (x : ScoreAttributes). scored_of (play_score q x)) (k.attributes ∙ attributes_passed k.map.file.map p q.passed_objects same)
+    ap (λ (x : ScoreAttributes). (play_score q x)) (k.attributes ∙ attributes_passed k.map.file.map p q.passed_objects same)
 
 -- ---- the same, on the map that the attributes are of
 pub record PlayingOn (s : List ℕ) (m : Map) (at : ℕ) (w : Wanted) (i : ℕ) (d : MapData) : Type 0 where
@@ -161,10 +159,10 @@ pub on_start : {s : List ℕ} {p : ℕ} {m : Map} (k : MapIs s p m) (i : ℕ) �
 unfolding playing_start read_start
 on_start k i = record { is = playing_start k i; on = refl }
 
-module _ {s : List ℕ} {m : Map} {at : ℕ} {w : Wanted} {i : ℕ} {d : MapData} (k : PlayingOn s m at w i d) (h : at < length s) (q : Play) (e : read.Is q ≡ play_in (drop at s)) where
-  pub on_refused : (n : ℕ) → scored.Refused n ≡ scored_of (play_score_on d q) → scores_of (file_of s) ≡ refusal n at
-  on_refused n r = playing_refused k.is h q e n (r ∙ ap (λ (x : MapData). scored_of (play_score_on x q)) (sym k.on))
+module _ {s : List ℕ} {m : Map} {at : ℕ} {w : Wanted} {i : ℕ} {d : MapData} (k : PlayingOn s m at w i d) (h : at < length s) (q : Play) (e : good q ≡ play_in (drop at s)) where
+  pub on_refused : (n : Rule) → refused n ≡ (play_score_on d q) → scores_of (file_of s) ≡ refusal n at
+  on_refused n r = playing_refused k.is h q e n (r ∙ ap (λ (x : MapData). (play_score_on x q)) (sym k.on))
 
-  pub on_more : (y : PlayScore) → scored.Score y ≡ scored_of (play_score_on d q) → (v : Wanted) → v ≡ wanted_after w y → PlayingOn s m (at + 44) v i d
+  pub on_more : (y : PlayScore) → good y ≡ (play_score_on d q) → (v : Wanted) → v ≡ wanted_after w y → PlayingOn s m (at + 44) v i d
   unfolding playing_more read_more
-  on_more y r v c = record { is = playing_more k.is h q e y (r ∙ ap (λ (x : MapData). scored_of (play_score_on x q)) (sym k.on)) v c; on = k.on }
+  on_more y r v c = record { is = playing_more k.is h q e y (r ∙ ap (λ (x : MapData). (play_score_on x q)) (sym k.on)) v c; on = k.on }

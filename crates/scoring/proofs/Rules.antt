@@ -1,4 +1,6 @@
 -- Every refusal has the number of a rule: each check of a record names one, and the reading of a file always comes to its end.
+use Rattle.rules.specs.declared.refusal.Rule.{Rule}
+use Rattle.std.specs.Prelude.{Option, Some, None, Float}
 use mathlib.Core.Path.{◌≡◌, refl, subst}
 use mathlib.Core.Bool.{Bool, true, false}
 use mathlib.Core.List.{List, [], ◌∷◌}
@@ -8,21 +10,14 @@ use borrow.Author.Tests.{ltb-true}
 use lib.Dec.{eqb, ltb}
 use lib.ListN.{length, take, drop}
 use Rattle.numbers.specs.Words.{word_at}
-use Rattle.rules.specs.Refusals.{Checked, good, refused, ◌>>=◌, ◌>>◌, refuse◌when◌, pick}
+use Rattle.rules.specs.Refusals.{Checked, good, refused, ◌>>=◌, ◌>>◌, refuse◌when◌, pick, number_of, CUT, MARK, RANGE, NESTED, COUNT, BONUS, PLAY_FIELD, PLAY_EXCEEDS}
 use Rattle.records.specs.Fields.{time_of, duration_of, rate_of, setting_of, timed, set, played}
 use Rattle.play_state.specs.Play.{origin_of, score_of, origin_checked, score_checked}
 use Rattle.records.specs.Records.{Content, FoundRecord, CI, SL, SP, header_of, break_of, circle_of, item_of, nested_of, slider_of, spinner_of, play_of, object_of}
 use Rattle.map_file.specs.Order.{MH, BR, PL, body_of, record_of}
 use Rattle.map_file.specs.File.{File, Result, accepted, refused_at, counts_of, with_record, follow, ended, file_from, nothing_read, file_of}
-use Rattle.records.specs.declared.fields.Double.{Double}
-use Rattle.records.specs.declared.fields.Double.TheVariants as double
-use Rattle.records.specs.declared.fields.Single.{Single}
-use Rattle.records.specs.declared.fields.Single.TheVariants as single
-use Rattle.play_state.specs.declared.Origin.{Origin}
-use Rattle.play_state.specs.declared.Origin.TheVariants as origin
-use Rattle.play_state.specs.declared.Score.{Score}
-use Rattle.play_state.specs.declared.Score.TheVariants as score
 use Rattle.map_file.specs.declared.file.Counts.{Counts}
+use Rattle.play_state.specs.declared.OsuScoreOrigin.{OsuScoreOrigin}
 use Rattle.play_state.specs.declared.Play.{Play}
 use Rattle.map_file.specs.File.{Map}
 use Rattle.map_file.proofs.Reading.{found_at, found_sized, with_at}
@@ -32,20 +27,20 @@ use Rattle.play_score.specs.PlayRules.{play_score, given_score}
 use Rattle.scoring.specs.Scores.{Outcome, refusal, values, at_offset, then, play_score_on, play_scores, scores_of}
 
 -- the rules of a map file and its plays are numbered 2 to 9
-abbrev pub IsRule : ℕ → Type 0
-IsRule n = (2 ≤ n) × (n ≤ 9)
+abbrev pub IsRule : Rule → Type 0
+IsRule n = (2 ≤ number_of n) × (number_of n ≤ 9)
 
 -- a value, or a rule's number
 pub data Ruled {A : Type 0} : Checked A → Type 0 where
   fine : {a : A} → Ruled (good a)
-  rule : {n : ℕ} → IsRule n → Ruled (refused n)
+  rule : {n : Rule} → IsRule n → Ruled (refused n)
 
 pub ruled_bind : {A B : Type 0} (x : Checked A) (f : A → Checked B) → Ruled x → ((a : A) → Ruled (f a)) → Ruled (x >>= f)
 unfolding ◌>>=◌
 ruled_bind (refused n) f (rule r) k = rule r
 ruled_bind (good a) f fine k = k a
 
-pub ruled_when : {B : Type 0} (n : ℕ) (b : Bool) (y : Checked B) → IsRule n → Ruled y → Ruled ((refuse n when b) >> y)
+pub ruled_when : {B : Type 0} (n : Rule) (b : Bool) (y : Checked B) → IsRule n → Ruled y → Ruled ((refuse n when b) >> y)
 unfolding ◌>>◌ refuse◌when◌
 ruled_when n true y r k = rule r
 ruled_when n false y r k = k
@@ -54,50 +49,50 @@ ruled_pick : {A : Type 0} (b : Bool) {x y : Checked A} → Ruled x → Ruled y �
 ruled_pick true p q = p
 ruled_pick false p q = q
 
-pub two : IsRule 2
+pub two : IsRule CUT
 two = (omega arith, omega arith)
 
-pub three : IsRule 3
+pub three : IsRule MARK
 three = (omega arith, omega arith)
 
-four : IsRule 4
+four : IsRule RANGE
 four = (omega arith, omega arith)
 
-five : IsRule 5
+five : IsRule NESTED
 five = (omega arith, omega arith)
 
-six : IsRule 6
+six : IsRule COUNT
 six = (omega arith, omega arith)
 
-seven : IsRule 7
+seven : IsRule BONUS
 seven = (omega arith, omega arith)
 
-pub eight : IsRule 8
+pub eight : IsRule PLAY_FIELD
 eight = (omega arith, omega arith)
 
-nine : IsRule 9
+nine : IsRule PLAY_EXCEEDS
 nine = (omega arith, omega arith)
 
 -- ---- the fields
-ruled_timed : (d : Double) → Ruled (timed d)
-ruled_timed (double.Is x) = fine
-ruled_timed double.Bad = rule four
+ruled_timed : (d : Option Float) → Ruled (timed d)
+ruled_timed (Some x) = fine
+ruled_timed None = rule four
 
-ruled_set : (d : Single) → Ruled (set d)
-ruled_set (single.Is x) = fine
-ruled_set single.Bad = rule four
+ruled_set : (d : Option Float) → Ruled (set d)
+ruled_set (Some x) = fine
+ruled_set None = rule four
 
-ruled_played : (d : Double) → Ruled (played d)
-ruled_played (double.Is x) = fine
-ruled_played double.Bad = rule eight
+ruled_played : (d : Option Float) → Ruled (played d)
+ruled_played (Some x) = fine
+ruled_played None = rule eight
 
-ruled_origin : (o : Origin) → Ruled (origin_checked o)
-ruled_origin (origin.Is x) = fine
-ruled_origin origin.Bad = rule eight
+ruled_origin : (o : Option OsuScoreOrigin) → Ruled (origin_checked o)
+ruled_origin (Some x) = fine
+ruled_origin None = rule eight
 
-ruled_score : (s : Score) → Ruled (score_checked s)
-ruled_score (score.Is x) = fine
-ruled_score score.Bad = rule eight
+ruled_score : (s : Option (Option ℕ)) → Ruled (score_checked s)
+ruled_score (Some x) = fine
+ruled_score None = rule eight
 
 ruled_nested : (l : List ℕ) → Ruled (nested_of l)
 unfolding nested_of
@@ -110,31 +105,31 @@ ruled_nested (b ∷ c ∷ l) =
 ruled_header : (r : List ℕ) → Ruled (header_of r)
 unfolding header_of
 ruled_header r =
-    ruled_when 2 _ _ two (ruled_bind _ _ (ruled_set (setting_of (word_at r 2 4))) (λ hp. ruled_bind _ _ (ruled_set (setting_of (word_at r 6 4))) (λ od. ruled_bind _ _ (ruled_set (setting_of (word_at r 10 4))) (λ cs. fine))))
+    ruled_when CUT _ _ two (ruled_bind _ _ (ruled_set (setting_of (word_at r 2 4))) (λ hp. ruled_bind _ _ (ruled_set (setting_of (word_at r 6 4))) (λ od. ruled_bind _ _ (ruled_set (setting_of (word_at r 10 4))) (λ cs. fine))))
 
 ruled_break : (r : List ℕ) → Ruled (break_of r)
 unfolding break_of
-ruled_break r = ruled_when 2 _ _ two (ruled_bind _ _ (ruled_timed (time_of (word_at r 2 8))) (λ a. ruled_bind _ _ (ruled_timed (time_of (word_at r 10 8))) (λ b. fine)))
+ruled_break r = ruled_when CUT _ _ two (ruled_bind _ _ (ruled_timed (time_of (word_at r 2 8))) (λ a. ruled_bind _ _ (ruled_timed (time_of (word_at r 10 8))) (λ b. fine)))
 
 ruled_circle : (r : List ℕ) → Ruled (circle_of r)
 unfolding circle_of
-ruled_circle r = ruled_when 2 _ _ two (ruled_bind _ _ (ruled_timed (time_of (word_at r 2 8))) (λ a. fine))
+ruled_circle r = ruled_when CUT _ _ two (ruled_bind _ _ (ruled_timed (time_of (word_at r 2 8))) (λ a. fine))
 
 ruled_slider : (r : List ℕ) → Ruled (slider_of r)
 unfolding slider_of
 ruled_slider r =
-    ruled_when 2 _ _ two (ruled_bind _ _ (ruled_timed (time_of (word_at r 2 8))) (λ a.
-    ruled_when 6 _ _ six (ruled_when 2 _ _ two (ruled_bind _ _ (ruled_nested (take (word_at r 10 2) (drop 12 r))) (λ is. fine)))))
+    ruled_when CUT _ _ two (ruled_bind _ _ (ruled_timed (time_of (word_at r 2 8))) (λ a.
+    ruled_when COUNT _ _ six (ruled_when CUT _ _ two (ruled_bind _ _ (ruled_nested (take (word_at r 10 2) (drop 12 r))) (λ is. fine)))))
 
 ruled_spinner : (r : List ℕ) → Ruled (spinner_of r)
 unfolding spinner_of
-ruled_spinner r = ruled_when 2 _ _ two (ruled_bind _ _ (ruled_timed (time_of (word_at r 2 8))) (λ a. ruled_bind _ _ (ruled_timed (duration_of (word_at r 10 8))) (λ b. fine)))
+ruled_spinner r = ruled_when CUT _ _ two (ruled_bind _ _ (ruled_timed (time_of (word_at r 2 8))) (λ a. ruled_bind _ _ (ruled_timed (duration_of (word_at r 10 8))) (λ b. fine)))
 
 ruled_play : (r : List ℕ) → Ruled (play_of r)
 unfolding play_of
 ruled_play r =
-    ruled_when 2 _ _ two (ruled_bind _ _ (ruled_origin (origin_of (word_at r 28 1))) (λ o. ruled_bind _ _ (ruled_score (score_of (word_at r 29 1) (word_at r 30 4))) (λ s.
-    ruled_when 8 _ _ eight (ruled_bind _ _ (ruled_played (rate_of (word_at r 36 8))) (λ x. fine)))))
+    ruled_when CUT _ _ two (ruled_bind _ _ (ruled_origin (origin_of (word_at r 28 1))) (λ o. ruled_bind _ _ (ruled_score (score_of (word_at r 29 1) (word_at r 30 4))) (λ s.
+    ruled_when PLAY_FIELD _ _ eight (ruled_bind _ _ (ruled_played (rate_of (word_at r 36 8))) (λ x. fine)))))
 
 pub ruled_object : (r : List ℕ) (m : ℕ) → Ruled (object_of r m)
 unfolding object_of
@@ -147,17 +142,17 @@ ruled_body r m = ruled_pick (eqb m MH) (ruled_header r) (ruled_pick (eqb m BR) (
 ruled_record : (r : List ℕ) (c : Counts) → Ruled (record_of r c)
 unfolding record_of
 ruled_record r c =
-    ruled_when 2 _ _ two (ruled_when 3 _ _ three (ruled_when 6 _ _ six (ruled_bind (body_of r (word_at r 0 2)) _ (ruled_body r (word_at r 0 2)) (λ f. ruled_when 7 _ _ seven fine))))
+    ruled_when CUT _ _ two (ruled_when MARK _ _ three (ruled_when COUNT _ _ six (ruled_bind (body_of r (word_at r 0 2)) _ (ruled_body r (word_at r 0 2)) (λ f. ruled_when BONUS _ _ seven fine))))
 
 -- ---- the file
 pub data RuledFile : Result → Type 0 where
   fine : {f : File} → RuledFile (accepted f)
-  rule : {n at : ℕ} {f : File} → IsRule n → RuledFile (refused_at n at f)
+  rule : {n : Rule} {at : ℕ} {f : File} → IsRule n → RuledFile (refused_at n at f)
 
 ruled_ended : (f : File) → RuledFile (ended f)
 ruled_ended f = go (eqb f.last 0)
   where
-    go : (b : Bool) → RuledFile (pick b (refused_at 3 0 f) (accepted f))
+    go : (b : Bool) → RuledFile (pick b (refused_at MARK 0 f) (accepted f))
     go true = rule three
     go false = fine
 
@@ -187,16 +182,16 @@ ruled_file s = ruled_from (suc (length s)) s nothing_read (omega arith)
 -- ---- the plays
 pub ruled_score_of : (p : Play) (a : ScoreAttributes) → Ruled (play_score p a)
 unfolding play_score
-ruled_score_of p a = ruled_when 9 _ _ nine fine
+ruled_score_of p a = ruled_when PLAY_EXCEEDS _ _ nine fine
 
 -- of a play that is given beside its map
 pub ruled_given : (p : Play) (a : ScoreAttributes) → Ruled (given_score p a)
 unfolding given_score
-ruled_given p a = ruled_when 8 _ _ eight (ruled_score_of p a)
+ruled_given p a = ruled_when PLAY_FIELD _ _ eight (ruled_score_of p a)
 
 data RuledOutcome {A : Type 0} : Outcome A → Type 0 where
   fine : {a : A} → RuledOutcome (values a)
-  rule : {n at : ℕ} → IsRule n → RuledOutcome (refusal n at)
+  rule : {n : Rule} {at : ℕ} → IsRule n → RuledOutcome (refusal n at)
 
 ruled_at : {A : Type 0} (at : ℕ) (x : Checked A) → Ruled x → RuledOutcome (at_offset at x)
 ruled_at at (refused n) (rule r) = rule r
@@ -212,12 +207,12 @@ ruled_plays m [] = fine
 ruled_plays m (p ∷ ps) =
     ruled_then _ _ (ruled_at p.0 (play_score_on m p.1) (ruled_score_of p.1 (score_attributes_at m p.1.passed_objects))) (λ s. ruled_then _ _ (ruled_plays m ps) (λ ss. fine))
 
-pub refusal_rule : (s : List ℕ) (n at : ℕ) → scores_of (file_of s) ≡ refusal n at → IsRule n
+pub refusal_rule : (s : List ℕ) (n : Rule) (at : ℕ) → scores_of (file_of s) ≡ refusal n at → IsRule n
 refusal_rule s n at e = out (subst RuledOutcome e (go (file_of s) (ruled_file s)))
   where
     go : (r : Result) → RuledFile r → RuledOutcome (scores_of r)
     go (accepted f) k = ruled_then _ _ (ruled_plays f.map f.plays) (λ ss. fine)
     go (refused_at n at f) (rule r) = ruled_then _ _ (ruled_plays f.map f.plays) (λ ss. rule r)
 
-    out : {A : Type 0} {n at : ℕ} → RuledOutcome {A = A} (refusal n at) → IsRule n
+    out : {A : Type 0} {n : Rule} {at : ℕ} → RuledOutcome {A = A} (refusal n at) → IsRule n
     out (rule r) = r

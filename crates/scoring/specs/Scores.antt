@@ -1,21 +1,17 @@
 -- Document 01, "What a caller gets": a map file with its plays gives its values, or the first refusal in the input with its offset.
-use Rattle.std.specs.Prelude.{ℕ, zero, suc, List, [], ◌∷◌, length}
-use Rattle.rules.specs.Refusals.{Checked, good, refused}
+use Rattle.std.specs.Prelude.{ℕ, zero, suc, List, [], ◌∷◌, length, Option, Some, None}
+use Rattle.rules.specs.Refusals.{Checked, good, refused, OrRefusal, refusal_at, at_0}
+use Rattle.rules.specs.declared.refusal.Rule.{Rule}
 use Rattle.map_file.specs.File.{Map, Result, accepted, refused_at}
 use Rattle.play_state.specs.declared.Play.{Play}
 use Rattle.simulator.specs.Attributes.{score_attributes_at}
-use Rattle.play_score.specs.PlayRules.{play_score, given_answer, given_score}
+use Rattle.simulator.specs.declared.attributes.ScoreAttributes.{ScoreAttributes}
+use Rattle.play_score.specs.PlayRules.{play_score, given_score}
 use Rattle.play_score.specs.declared.PlayScore.{PlayScore}
-use Rattle.scoring.specs.declared.score.MapScore.{MapScore}
-use Rattle.scoring.specs.declared.score.MapScore.TheVariants as map_score
-use Rattle.play_score.specs.declared.GivenPlay.{GivenPlay}
-use Rattle.play_score.specs.declared.GivenPlay.TheVariants as given
-use Rattle.scoring.specs.declared.score.ListedPlay.{ListedPlay}
-use Rattle.scoring.specs.declared.score.ListedPlay.TheVariants as listed
 
--- values, or a refusal's number and offset
+-- values, or the rule that refuses and the offset
 pub data Outcome (A : Type 0) : Type 0 where
-  refusal : ℕ → ℕ → Outcome A
+  refusal : Rule → ℕ → Outcome A
   values : A → Outcome A
 
 abbrev pub at_offset : {A : Type 0} → ℕ → Checked A → Outcome A
@@ -48,21 +44,21 @@ scores_of (refused_at n at f) = then (play_scores f.map f.plays) (λ ss. refusal
 
 -- ---- the answers of the calls, case by case
 -- "the score of a map file": the attributes of all objects
-abbrev pub map_score_of : Outcome Scores → MapScore
-map_score_of (refusal n at) = map_score.Refused n at
-map_score_of (values s) = map_score.Map (score_attributes_at s.map (length s.map.objects))
+abbrev pub map_score_of : Outcome Scores → OrRefusal ScoreAttributes
+map_score_of (refusal n at) = refused (refusal_at n at)
+map_score_of (values s) = good (score_attributes_at s.map (length s.map.objects))
 
 -- the score of a play that is given beside the file
-abbrev pub given_play_of : Play → Outcome Scores → GivenPlay
-given_play_of p (refusal n at) = given.Refused n at
-given_play_of p (values s) = given_answer (given_score p (score_attributes_at s.map p.passed_objects))
+abbrev pub given_play_of : Play → Outcome Scores → OrRefusal PlayScore
+given_play_of p (refusal n at) = refused (refusal_at n at)
+given_play_of p (values s) = at_0 (given_score p (score_attributes_at s.map p.passed_objects))
 
 -- the play at an index of the file, if there is one
-abbrev pub play_at : ℕ → List PlayScore → ListedPlay
-play_at i [] = listed.NoPlay
-play_at zero (s ∷ ss) = listed.Score s
+abbrev pub play_at : ℕ → List PlayScore → Option PlayScore
+play_at i [] = None
+play_at zero (s ∷ ss) = Some s
 play_at (suc i) (s ∷ ss) = play_at i ss
 
-abbrev pub listed_play_of : ℕ → Outcome Scores → ListedPlay
-listed_play_of i (refusal n at) = listed.Refused n at
-listed_play_of i (values s) = play_at i s.plays
+abbrev pub listed_play_of : ℕ → Outcome Scores → OrRefusal (Option PlayScore)
+listed_play_of i (refusal n at) = refused (refusal_at n at)
+listed_play_of i (values s) = good (play_at i s.plays)

@@ -6,13 +6,13 @@ ghost use Rattle.scoring.specs.Scores.{scores_of};
 ghost use Rattle.scoring.specs.View.{wanted_after, AfterPlay, passes_as_many, AnyPlaying, Attributed, ScoredOn, checked_of, CheckedFrom, PlaysOf};
 
 use map_reader::attributes::attributes_of;
-use map_reader::map::{Map, MapRead, read_passed};
+use map_reader::map::{Map, read_passed};
 use marks::{attributes_from, mark_before, marks_of, score_anew};
 use numbers::naturals::least;
-use play_reader::{PlayRead, play_at};
-use play_score::{PlayScore, Scored, exceeds_map, score_on};
+use play_reader::play_at;
+use play_score::{PlayScore, exceeds_map, score_on};
 use play_state::Play;
-use rules::refusal;
+use rules::refusal::{Refusal, Rule};
 use simulator::attributes::ScoreAttributes;
 
 // The score of the wanted play, or how many plays stand between it and what was read.
@@ -22,21 +22,9 @@ pub enum Wanted {
     Is(PlayScore),
 }
 
-// Of a file whose plays are all good: its map, and the attributes of its first objects.
-#[derive(Clone, Copy)]
-pub enum Plays {
-    Good(Map, ScoreAttributes),
-    Refused { number: u8, offset: usize },
-}
-
-#[derive(Clone, Copy)]
-pub enum Checked {
-    Good(Wanted),
-    Refused { number: u8, offset: usize },
-}
-
 impl Wanted {
     // Behind one more play.
+    #[tactic(auto, unfolding(crate::specs::View::wanted_after))]
     fn after(self, score: PlayScore) -> Self
         ensures { result ≡ wanted_after self score }
     {
@@ -52,6 +40,7 @@ impl Wanted {
     }
 
     // Behind one more play, which is good and is scored only where it is the wanted one.
+    #[tactic(auto, unfolding(crate::specs::View::wanted_after))]
     fn after_play(self, s: &[u8], map: Map, play: Play) -> Self
         requires { IsMap s.now map }
         ensures { AfterPlay s.now map play self result }
@@ -63,8 +52,8 @@ impl Wanted {
                     return Wanted::Ahead(ahead - 1);
                 }
                 match score_anew(s, map, play) {
-                    Scored::Score(score) => Wanted::Is(score),
-                    Scored::Refused(_) => Wanted::Ahead(ahead),
+                    Ok(score) => Wanted::Is(score),
+                    Err(_) => self,
                 }
             }
         }
@@ -79,7 +68,7 @@ fn passes_as_many(play: Play, passed: u64, objects: u64) -> bool
 }
 
 // The plays from an offset on, whatever they passed, from marks: 9 takes no bonus, so that no spinner is walked for it.
-fn check_any(s: &[u8], map: Map, from: usize, former: Wanted) -> Checked
+fn check_any(s: &[u8], map: Map, from: usize, former: Wanted) -> Result<Wanted, Refusal>
     requires { AnyPlaying s.now map from former }
     ensures { CheckedFrom s.now map from former result }
 {
@@ -87,24 +76,15 @@ fn check_any(s: &[u8], map: Map, from: usize, former: Wanted) -> Checked
     let mut at = from;
     let mut wanted = former;
     while at < s.len() {
-        match play_at(s, at) {
-            PlayRead::Refused(number) => {
-                return Checked::Refused { number, offset: at };
-            }
-            PlayRead::Is(play) => {
-                let i = mark_before(map.objects, play);
-                if exceeds_map(play, attributes_from(s, map, marks.states[i], play)) {
-                    return Checked::Refused {
-                        number: refusal::PLAY_EXCEEDS,
-                        offset: at,
-                    };
-                }
-                wanted = wanted.after_play(s, map, play);
-            }
+        let play = play_at(s, at).map_err(|rule| rule.at(at))?;
+        let i = mark_before(map.objects, play);
+        if exceeds_map(play, attributes_from(s, map, marks.states[i], play)) {
+            return Err(Rule::PlayExceeds.at(at));
         }
+        wanted = wanted.after_play(s, map, play);
         at += Play::SIZE;
     }
-    Checked::Good(wanted)
+    Ok(wanted)
 }
 
 // To set marks costs a pass of all objects, and as much again as this many.
@@ -132,7 +112,13 @@ fn needs_marks(play: Play, passed: u64, map: Map, plays: usize) -> bool {
 }
 
 // A play behind its map, from the attributes of the first objects where it passed as many.
-fn score_behind(s: &[u8], map: Map, a: ScoreAttributes, passed: u64, play: Play) -> Scored
+fn score_behind(
+    s: &[u8],
+    map: Map,
+    a: ScoreAttributes,
+    passed: u64,
+    play: Play,
+) -> Result<PlayScore, Rule>
     requires { Attributed s.now passed map a }
     ensures { ScoredOn s.now passed map a play result }
 {
@@ -143,49 +129,37 @@ fn score_behind(s: &[u8], map: Map, a: ScoreAttributes, passed: u64, play: Play)
 }
 
 // The plays behind a map, given the attributes of its first objects. Marks are made only where many plays passed other counts than these.
-pub fn check_behind(s: &[u8], map: Map, a: ScoreAttributes, passed: u64, index: u64) -> Checked
+pub fn check_behind(
+    s: &[u8],
+    map: Map,
+    a: ScoreAttributes,
+    passed: u64,
+    index: u64,
+) -> Result<Wanted, Refusal>
     requires { Attributed s.now passed map a }
     ensures { result ≡ checked_of index (scores_of (file_of s.now)) }
 {
     let mut at = map.end;
     let mut wanted = Wanted::Ahead(index);
     while at < s.len() {
-        match play_at(s, at) {
-            PlayRead::Refused(number) => {
-                return Checked::Refused { number, offset: at };
-            }
-            PlayRead::Is(play) => {
-                if needs_marks(play, passed, map, (s.len() - at) / Play::SIZE) {
-                    return check_any(s, map, at, wanted);
-                }
-                match score_behind(s, map, a, passed, play) {
-                    Scored::Refused(number) => {
-                        return Checked::Refused { number, offset: at };
-                    }
-                    Scored::Score(score) => {
-                        wanted = wanted.after(score);
-                    }
-                }
-            }
+        let play = play_at(s, at).map_err(|rule| rule.at(at))?;
+        if needs_marks(play, passed, map, (s.len() - at) / Play::SIZE) {
+            return check_any(s, map, at, wanted);
         }
+        let score = score_behind(s, map, a, passed, play).map_err(|rule| rule.at(at))?;
+        wanted = wanted.after(score);
         at += Play::SIZE;
     }
-    Checked::Good(wanted)
+    Ok(wanted)
 }
 
 // Reads a file to its end, each play checked in its place, for its map and the attributes of its first objects. No play has the index that is asked for,
 // so that from marks none is scored.
-pub fn check_plays(s: &[u8], passed: u64) -> Plays
+pub fn check_plays(s: &[u8], passed: u64) -> Result<(Map, ScoreAttributes), Refusal>
     ensures { PlaysOf s.now passed result }
 {
-    match read_passed(s, passed) {
-        MapRead::Refused { number, offset } => Plays::Refused { number, offset },
-        MapRead::Map(map) => {
-            let a = attributes_of(s, map);
-            match check_behind(s, map, a, passed, u64::MAX) {
-                Checked::Refused { number, offset } => Plays::Refused { number, offset },
-                Checked::Good(_) => Plays::Good(map, a),
-            }
-        }
-    }
+    let map = read_passed(s, passed)?;
+    let a = attributes_of(s, map);
+    check_behind(s, map, a, passed, u64::MAX)?;
+    Ok((map, a))
 }

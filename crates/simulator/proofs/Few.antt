@@ -1,6 +1,6 @@
 -- Objects with at most 1,000 nested items leave every sum of the first p of them within its bound. Assumes nothing.
 use mathlib.Core.Path.{◌≡◌, refl}
-use mathlib.Core.List.{List, [], ◌∷◌, ◌++◌}
+use mathlib.Core.List.{List, [], ◌∷◌}
 use Prim.Native.Nat.{ℕ, zero, suc, ◌+◌, ◌≤◌}
 use native.Mathlib.Omega.{arith}
 use lib.ListN.{length, take, length-take}
@@ -59,10 +59,6 @@ pub each_take : {P : Object → Type 0} (p : ℕ) {os : List Object} → Each P 
 each_take zero w = none
 each_take (suc p) none = none
 each_take (suc p) (one h w) = one h (each_take p w)
-
-pub each_more : (os : List Object) (o : Object) → Each Few os → Few o → Each Few (os ++ (o ∷ []))
-each_more [] o none h = one h none
-each_more (x ∷ os) o (one k w) h = one k (each_more os o w h)
 
 all_within : (n : ℕ) (st : State) (os : List Object) → n + length os ≤ max_objects → Each Few os → Within n st → Within (n + length os) (after 1 st os)
 unfolding after

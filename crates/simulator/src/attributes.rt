@@ -41,6 +41,7 @@ pub struct PassedValues {
     pub largest_gain: u64,
 }
 
+#[tactic(auto, unfolding(crate::specs::Attributes::difficulty_attributes_of))]
 fn difficulty_attributes(
     score: OsuLegacyScoreSimulator,
     nested: NestedScorePerObject,
@@ -62,6 +63,7 @@ fn difficulty_attributes(
     }
 }
 
+#[tactic(auto, unfolding(crate::specs::Attributes::score_attributes_of))]
 pub fn score_attributes(
     score: OsuLegacyScoreSimulator,
     nested: NestedScorePerObject,
@@ -70,11 +72,10 @@ pub fn score_attributes(
     requires { Bounded score × Counted max_objects nested × (multiplier ≤ 7) }
     ensures { result ≡ score_attributes_of (times multiplier score) nested multiplier }
 {
-    let standardised_bonus_score = score.standardised_bonus_score;
     ScoreAttributes {
         object_count: nested.object_count,
         multiplier,
-        standardised_bonus_score,
+        standardised_bonus_score: score.standardised_bonus_score,
         legacy: score.finalize(multiplier),
         difficulty: difficulty_attributes(score, nested, multiplier),
     }

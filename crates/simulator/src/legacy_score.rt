@@ -5,7 +5,6 @@ ghost use Rattle.simulator.specs.Nested.{spins_score, spinner_score_of, nested_s
 ghost use Rattle.simulator.specs.Limits.{Counted, nested_count};
 ghost use Rattle.simulator.specs.View.{kind_of};
 
-use numbers::naturals::monus;
 use numbers::rounding::float;
 use records::hit_object::{HitObject, HitObjectKind, Slider, Spinner};
 use spinner::{HalfSpins, half_spins};
@@ -20,10 +19,11 @@ pub fn score_of_spins(h: HalfSpins) -> u64
     ensures { result ≡ spins_score h.total h.required }
 {
     let full_spins = h.total / 2;
-    let bonus_spins = monus(monus(h.total, h.required + 3) / 2, full_spins / 2);
+    let bonus_spins = (h.total.saturating_sub(h.required + 3) / 2).saturating_sub(full_spins / 2);
     SPIN_SCORE * full_spins + BONUS_SPIN_SCORE * bonus_spins
 }
 
+#[tactic(auto, unfolding(crate::specs::Nested::spinner_score_of))]
 pub fn calculate_spinner_score(spinner: Spinner) -> u64
     ensures { result ≡ spinner_score_of spinner.duration }
 {
@@ -31,7 +31,7 @@ pub fn calculate_spinner_score(spinner: Spinner) -> u64
 }
 
 // The objects by kind, and what the nested score sums over them.
-#[derive(Clone, Copy)]
+#[derive(Clone, Copy, Default)]
 pub struct NestedScorePerObject {
     pub object_count: u64,
     pub n_circles: u64,
@@ -46,24 +46,16 @@ impl NestedScorePerObject {
     pub fn new() -> Self
         ensures { result ≡ no_object }
     {
-        NestedScorePerObject {
-            object_count: 0,
-            n_circles: 0,
-            n_sliders: 0,
-            n_spinners: 0,
-            n_repeats: 0,
-            amount_of_small_ticks: 0,
-            spinner_score: 0,
-        }
+        NestedScorePerObject::default()
     }
 
+    #[tactic(auto, using(crate::proofs::Objects::repeats_kept, crate::proofs::Objects::ticks_kept, crate::proofs::Bonus::nested_legacy, crate::proofs::Bonus::legacy_most), unfolding(crate::specs::Nested::counted))]
     pub fn process_next(self, object: HitObject) -> Self
         requires { Counted (max_objects - 1) self × (nested_count object.kind ≤ max_nested) }
         ensures { result ≡ counted self (kind_of object.kind) }
     {
         let object_count = self.object_count + 1;
-        let kind = object.kind;
-        match kind {
+        match object.kind {
             HitObjectKind::Circle => NestedScorePerObject {
                 object_count,
                 n_circles: self.n_circles + 1,
@@ -86,6 +78,7 @@ impl NestedScorePerObject {
     }
 
     // With no object a quotient of zeros, which is not a number.
+    #[tactic(auto, unfolding(crate::specs::Nested::nested_score_of))]
     pub fn calculate(self) -> f64
         requires { Counted max_objects self }
         ensures { result ≡ nested_score_of self }

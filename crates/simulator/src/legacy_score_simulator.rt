@@ -38,10 +38,7 @@ pub fn combo_points(combo: u64) -> u64
     requires { combo ≤ combo_limit }
     ensures { result ≡ 12 * (combo - 1) }
 {
-    if combo == 0 {
-        return 0;
-    }
-    HitResult::Great.base_score() / COMBO_DIVISOR * (combo - 1)
+    HitResult::Great.base_score() / COMBO_DIVISOR * combo.saturating_sub(1)
 }
 
 impl OsuLegacyScoreSimulator {
@@ -61,14 +58,11 @@ impl OsuLegacyScoreSimulator {
         requires { Within (max_objects - 1) self }
         ensures { result ≡ walk 1 self (hits_of (kind_of HitObjectKind.Circle)) }
     {
-        let legacy_bonus_score = self.legacy_bonus_score;
-        let standardised_bonus_score = self.standardised_bonus_score;
         OsuLegacyScoreSimulator {
             combo: self.combo + 1,
             accuracy_score: self.accuracy_score + HitResult::Great.base_score(),
             combo_score: self.combo_score + combo_points(self.combo),
-            legacy_bonus_score,
-            standardised_bonus_score,
+            ..self
         }
     }
 
@@ -79,8 +73,6 @@ impl OsuLegacyScoreSimulator {
     {
         let big_ticks = slider.repeats + 2;
         let combo = self.combo + big_ticks + slider.ticks;
-        let legacy_bonus_score = self.legacy_bonus_score;
-        let standardised_bonus_score = self.standardised_bonus_score;
         OsuLegacyScoreSimulator {
             combo,
             accuracy_score: self.accuracy_score
@@ -88,12 +80,12 @@ impl OsuLegacyScoreSimulator {
                 + slider.ticks * HitResult::SmallTickHit.base_score()
                 + HitResult::Great.base_score(),
             combo_score: self.combo_score + combo_points(combo),
-            legacy_bonus_score,
-            standardised_bonus_score,
+            ..self
         }
     }
 
     // The bonus of the half spins, then the 300 at the end.
+    #[tactic(auto, using(crate::proofs::Bonus::legacy_most, crate::proofs::Bonus::standardised_most))]
     pub fn spinner(self, spinner: Spinner) -> Self
         requires { Within (max_objects - 1) self }
         ensures { result ≡ walk 1 self (hits_of (kind_of (HitObjectKind.Spinner spinner))) }
@@ -112,6 +104,7 @@ impl OsuLegacyScoreSimulator {
         }
     }
 
+    #[tactic(auto, unfolding(crate::specs::Attributes::bonus_ratio_of))]
     fn bonus_score_ratio(self) -> f64
         ensures { result ≡ bonus_ratio_of self }
     {
@@ -123,16 +116,16 @@ impl OsuLegacyScoreSimulator {
     }
 
     // The attributes with the multiplier of the map.
+    #[tactic(auto, unfolding(crate::specs::Attributes::legacy_attributes_of, crate::specs::Attributes::bonus_ratio_of))]
     pub fn finalize(self, multiplier: u64) -> LegacyScoreAttributes
         requires { Bounded self × (multiplier ≤ 7) }
         ensures { result ≡ legacy_attributes_of (times multiplier self) }
     {
-        let bonus_score = self.legacy_bonus_score;
         LegacyScoreAttributes {
             accuracy_score: self.accuracy_score,
             combo_score: self.combo_score * multiplier,
             bonus_score_ratio: self.bonus_score_ratio(),
-            bonus_score,
+            bonus_score: self.legacy_bonus_score,
             max_combo: self.combo,
         }
     }

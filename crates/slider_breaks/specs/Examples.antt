@@ -1,19 +1,17 @@
 -- The slider breaks of some plays, worked out by a second program in doubles; 14 at its edges, and which of two faults is told.
-use Rattle.std.specs.Prelude.{ℕ, true, false, ◌≡◌, refl, List, [], ◌∷◌, map}
+use Rattle.rules.specs.Refusals.{good, refused, refusal_at, PLAY_EXCEEDS, FACTOR}
+use Rattle.std.specs.Prelude.{ℕ, true, false, ◌≡◌, refl, List, [], ◌∷◌, map, None}
 use Rattle.std.specs.Float.{binary64}
 use Rattle.std.specs.Float.Ieee.{of_bits, to_bits, of_int, round, add, sub, mul, div, neg, sum, lt, le, eq, is_nan}
 use Rattle.numbers.specs.MinMax.{min_of, clamp_of}
 use Rattle.exponential.specs.Exp.{series_of, squared, exp_of}
 use Rattle.play_state.specs.declared.OsuScoreOrigin.{OsuScoreOrigin}
 use Rattle.play_state.specs.declared.OsuScoreOrigin.TheVariants.{Stable, WithSliderAcc, WithoutSliderAcc}
-use Rattle.play_state.specs.declared.LegacyTotalScore.TheVariants.{Absent}
 use Rattle.play_state.specs.declared.Play.{Play}
 use Rattle.play_score.specs.declared.PlayScore.{PlayScore}
-use Rattle.play_score.specs.declared.GivenPlay.TheVariants as given
 use Rattle.slider_breaks.specs.Difficulty.{reverse_lerp_of, smoothstep_of, logistic_of}
 use Rattle.slider_breaks.specs.SliderBreaks.{adjusted_of, slider_breaks_of, estimated_breaks}
 use Rattle.slider_breaks.specs.Given.{is_factor, factors_bad, with_breaks}
-use Rattle.slider_breaks.specs.Given as breaks
 use Rattle.slider_breaks.specs.declared.calculator.SliderFactors.{SliderFactors}
 
 -- of a play its origin, 100s and combo, of the passed objects the max combo, and the bits of the effective count and of a factor
@@ -31,7 +29,7 @@ play_in r = record {
   max_combo = r.combo;
   hitresults = record { n300 = 0; n100 = r.n100; n50 = 0; misses = 0; large_tick_hits = 0; small_tick_hits = 0; slider_end_hits = 0 };
   origin = r.origin;
-  legacy_total_score = Absent;
+  legacy_total_score = None;
   mods = record { flags = 0; clock_rate = of_bits binary64 0 };
 }
 
@@ -105,10 +103,10 @@ unfolding factors_bad is_factor of_int of_bits lt le eq
 one_is_wrong = refl
 
 -- a refusal of the call without factors comes first, with its offset
-refused_first : (p : Play) → with_breaks p (both 0x4024_0000_0000_0001 0) (given.Refused 9 32) ≡ breaks.Refused 9 32
+refused_first : (p : Play) → with_breaks p (both 0x4024_0000_0000_0001 0) (refused (refusal_at PLAY_EXCEEDS 32)) ≡ refused (refusal_at PLAY_EXCEEDS 32)
 refused_first p = refl
 
 -- 14 has offset 0, and takes the place of the values
-fourteen : (p : Play) (s : PlayScore) → with_breaks p (both 0 0x4024_0000_0000_0001) (given.Score s) ≡ breaks.Refused 14 0
+fourteen : (p : Play) (s : PlayScore) → with_breaks p (both 0 0x4024_0000_0000_0001) (good s) ≡ refused (refusal_at FACTOR 0)
 unfolding factors_bad is_factor of_int of_bits lt le eq
 fourteen p s = refl

@@ -1,13 +1,11 @@
 -- Document 02, §1: what a call with factors answers: the answer of the same call without them, then 14, then the values. One definition for the call
 -- on a map file and for the read of a board.
-use Rattle.std.specs.Prelude.{ℕ, Bool, not, ◌&&◌, ◌||◌, Float}
+use Rattle.std.specs.Prelude.{Bool, not, ◌&&◌, ◌||◌, Float}
 use Rattle.std.specs.Float.Ieee.{le}
 use Rattle.numbers.specs.Floats.{whole}
-use Rattle.rules.specs.Refusals.{pick, FACTOR}
+use Rattle.rules.specs.Refusals.{OrRefusal, good, refused, refusal_at, pick, FACTOR}
 use Rattle.play_state.specs.declared.Play.{Play}
 use Rattle.play_score.specs.declared.PlayScore.{PlayScore}
-use Rattle.play_score.specs.declared.GivenPlay.{GivenPlay}
-use Rattle.play_score.specs.declared.GivenPlay.TheVariants as given
 use Rattle.slider_breaks.specs.SliderBreaks.{estimated_breaks}
 use Rattle.slider_breaks.specs.declared.calculator.SliderFactors.{SliderFactors}
 use Rattle.slider_breaks.specs.declared.calculator.SliderBreaks.{SliderBreaks}
@@ -16,11 +14,6 @@ use Rattle.slider_breaks.specs.declared.calculator.SliderBreaks.{SliderBreaks}
 pub record BreaksScore : Type 0 where
   pub score : PlayScore
   pub slider_breaks : SliderBreaks
-
--- or a refusal's number and offset
-pub data GivenBreaks : Type 0 where
-  Score : BreaksScore → GivenBreaks
-  Refused : ℕ → ℕ → GivenBreaks
 
 -- "the two top-weighted factors, each from 0 to 10": by value, so that -0.0 passes; what is not finite does not
 unfoldable pub is_factor : Float → Bool
@@ -33,6 +26,6 @@ abbrev pub breaks_score : Play → SliderFactors → PlayScore → BreaksScore
 breaks_score p f s = record { score = s; slider_breaks = estimated_breaks p s.attributes.difficulty.max_combo s.estimates.effective f }
 
 -- "14: a factor out of range or not finite; checked last", with offset 0
-abbrev pub with_breaks : Play → SliderFactors → GivenPlay → GivenBreaks
-with_breaks p f (given.Refused number offset) = Refused number offset
-with_breaks p f (given.Score s) = pick (factors_bad f) (Refused FACTOR 0) (Score (breaks_score p f s))
+abbrev pub with_breaks : Play → SliderFactors → OrRefusal PlayScore → OrRefusal BreaksScore
+with_breaks p f (refused r) = refused r
+with_breaks p f (good s) = pick (factors_bad f) (refused (refusal_at FACTOR 0)) (good (breaks_score p f s))

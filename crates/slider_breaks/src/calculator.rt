@@ -5,7 +5,6 @@ ghost use Rattle.slider_breaks.specs.SliderBreaks.{no_breaks, adjusted_of, both_
 use crate::difficulty::{logistic, smoothstep};
 use estimates::calculator::is_classic;
 use numbers::minmax::min;
-use numbers::rounding::float;
 use play_state::Play;
 
 // The Rust's `aim_top_weighted_slider_factor` and `speed_top_weighted_slider_factor`.
@@ -23,6 +22,7 @@ pub struct SliderBreaks {
 }
 
 impl SliderBreaks {
+    #[tactic(auto, unfolding(crate::specs::SliderBreaks::no_breaks, numbers::proofs::Literals::of_bits, numbers::proofs::Literals::of_int, numbers::proofs::Literals::round))]
     pub fn none() -> SliderBreaks
         ensures { result ≡ no_breaks }
     {
@@ -34,6 +34,7 @@ impl SliderBreaks {
 }
 
 // The breaks of one factor from their count, which is at most n100; `step` and `likely` are those of `smoothstep` and `logistic`.
+#[tactic(auto, unfolding(crate::specs::SliderBreaks::adjusted_of, numbers::proofs::Literals::of_bits, numbers::proofs::Literals::of_int, numbers::proofs::Literals::round))]
 fn adjusted(n100: f64, breaks: f64, step: f64, likely: f64) -> f64
     ensures { result ≡ adjusted_of n100 breaks step likely }
 {
@@ -43,6 +44,7 @@ fn adjusted(n100: f64, breaks: f64, step: f64, likely: f64) -> f64
 }
 
 // For both factors at once, since neither curve depends on them; `highest` is the passed objects' max combo.
+#[tactic(auto, unfolding(crate::specs::SliderBreaks::slider_breaks_of, numbers::proofs::Literals::of_bits, numbers::proofs::Literals::of_int, numbers::proofs::Literals::round))]
 pub fn calculate_estimated_slider_breaks(
     play: Play,
     highest: u32,
@@ -51,15 +53,11 @@ pub fn calculate_estimated_slider_breaks(
 ) -> SliderBreaks
     ensures { result ≡ both_of play highest effective factors }
 {
-    let origin = play.origin;
-    if !is_classic(origin) {
+    if !is_classic(play.origin) || play.hitresults.n100 == 0 {
         return SliderBreaks::none();
     }
-    if play.hitresults.n100 == 0 {
-        return SliderBreaks::none();
-    }
-    let n100 = float(play.hitresults.n100 as u64);
-    let missed_combo_percent = 1.0 - float(play.max_combo as u64) / float(highest as u64);
+    let n100 = f64::from(play.hitresults.n100);
+    let missed_combo_percent = 1.0 - f64::from(play.max_combo) / f64::from(highest);
     let step = smoothstep(effective, 1.0, 2.0);
     let likely = logistic(missed_combo_percent, 0.33, 15.0);
     SliderBreaks {
@@ -69,6 +67,7 @@ pub fn calculate_estimated_slider_breaks(
 }
 
 // An effective count of 0 gives 0, whatever the factors.
+#[tactic(auto, unfolding(crate::specs::SliderBreaks::estimated_breaks, numbers::proofs::Literals::of_bits, numbers::proofs::Literals::of_int, numbers::proofs::Literals::round))]
 pub fn slider_breaks(
     play: Play,
     highest: u32,
@@ -78,7 +77,8 @@ pub fn slider_breaks(
     ensures { result ≡ estimated_breaks play highest effective factors }
 {
     if effective > 0.0 {
-        return calculate_estimated_slider_breaks(play, highest, effective, factors);
+        calculate_estimated_slider_breaks(play, highest, effective, factors)
+    } else {
+        SliderBreaks::none()
     }
-    SliderBreaks::none()
 }

@@ -13,6 +13,7 @@ impl SliderFactors {
     pub const MAX: f64 = 10.0;
 }
 
+#[tactic(auto, unfolding(crate::specs::Given::is_factor, numbers::proofs::Literals::of_bits, numbers::proofs::Literals::of_int, numbers::proofs::Literals::round))]
 fn is_factor(x: f64) -> bool
     ensures { result ≡ is_factor x }
 {
@@ -20,11 +21,9 @@ fn is_factor(x: f64) -> bool
 }
 
 // Number 14 is given where this is so and nothing else is refused.
+#[tactic(auto, unfolding(crate::specs::Given::factors_bad))]
 pub fn has_bad_factors(factors: SliderFactors) -> bool
     ensures { result ≡ factors_bad factors }
 {
-    if !is_factor(factors.aim) {
-        return true;
-    }
-    !is_factor(factors.speed)
+    !is_factor(factors.aim) || !is_factor(factors.speed)
 }

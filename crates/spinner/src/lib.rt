@@ -73,10 +73,8 @@ fn walk_half_spins(total: u64, before: u64) -> BonusScores
     ensures { result ≡ sums_before before (suc total) }
 {
     let mut sums = BonusScores::new();
-    let mut i = 0;
-    while i <= total {
+    for i in 0..=total {
         sums = sums.half_spin(i, before);
-        i += 1;
     }
     sums
 }

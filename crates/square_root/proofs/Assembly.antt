@@ -12,10 +12,6 @@ use Rattle.square_root.proofs.Isqrt.{IsRoot, isqrt_root, sq_lt, four_pow, scaled
 use Rattle.square_root.proofs.Rounded.{even_case, odd_case, rounded, bits_at, bits_of}
 use Rattle.numbers.proofs.bits.Fields.{powers}
 
--- what `whole_root` ensures is that its root is the whole one
-pub is_root : (q r n : ℕ) → q * q + r ≡ n → r ≤ q * 2 → IsRoot q n
-is_root q r n e h = (omega arith, omega arith)
-
 -- a root of M * 2 ^ 54 has 54 digits
 pub root_ge : (q M : ℕ) → 2 ^ 52 ≤ M → IsRoot q (M * 2 ^ 54) → 2 ^ 53 ≤ q
 root_ge q M h v = let k : 2 ^ 53 < q + 1 = sq_lt (2 ^ 53) (q + 1) (lt_of_le_of_lt (big M h) v.1) in omega arith
@@ -30,7 +26,7 @@ root_lt q M h v = sq_lt q (2 ^ 54) (lt_of_le_of_lt v.0 (small M h))
     small M h = omega arith
 
 -- ---- the last digit of W: W is Q * 2, and one more unless Q * Q is all of the number
-abbrev last : ℕ → ℕ → ℕ
+abbrev pub last : ℕ → ℕ → ℕ
 last Q n = Q * 2 + cond (eqb (Q * Q) n) 0 1
 
 digit : (b : Bool) → cond b 0 1 ≤ 1
@@ -80,12 +76,35 @@ nearest_half q M j Q h k =
           (subst (λ (x : ℕ). last Q n < (x + 1) * (2 ^ j * 2)) e t.1))
     ]
 
+-- W, for the root of M * 2 ^ 54 * 4 ^ j: its size, and what it rounds to
+pub rounding : (M q j Q : ℕ) → 2 ^ 52 ≤ M → M < 2 ^ 54 → IsRoot q (M * 2 ^ 54) → IsRoot Q (M * 2 ^ 54 * 4 ^ j)
+    → (2 ^ (j + 54) ≤ last Q (M * 2 ^ 54 * 4 ^ j)) × (last Q (M * 2 ^ 54 * 4 ^ j) < 2 ^ (j + 55)) × (closest (last Q (M * 2 ^ 54 * 4 ^ j)) (2 ^ (j + 2)) ≡ (q + 1) / 2)
+rounding M q j Q lo hi own whole =
+    let n = M * 2 ^ 54 * 4 ^ j in
+    let W = last Q n in
+    let s = scaled q (M * 2 ^ 54) j Q own whole in
+    let t = between q (2 ^ j) Q (cond (eqb (Q * Q) n) 0 1) s.0 s.1 (digit (eqb (Q * Q) n)) in
+    let p2 : 2 ^ j * 2 ≡ 2 ^ (j + 1) = powers j 1 (j + 1) refl in
+    let low : 2 ^ (j + 54) ≤ W =
+    le_trans (le_of_eq (sym (powers 53 (j + 1) (j + 54) (omega arith))))
+    (le_trans (mul-le-mul_right (2 ^ (j + 1)) (root_ge q M lo own)) (subst (λ (x : ℕ). q * x ≤ W) p2 t.0)) in
+    let high : W < 2 ^ (j + 55) =
+    lt_of_lt_of_le t.1
+    (le_trans (mul-le-mul_right (2 ^ j * 2) (up_to q (root_lt q M hi own)))
+    (le_of_eq (ap (λ (x : ℕ). 2 ^ 54 * x) p2 ∙ powers 54 (j + 1) (j + 55) (omega arith)))) in
+    let c : closest W (2 ^ (j + 2)) ≡ (q + 1) / 2 =
+    ap (λ (x : ℕ). closest W x) (sym (ap (λ (x : ℕ). x * 2) p2 ∙ powers (j + 1) 1 (j + 2) (omega arith))) ∙ nearest_half q M j Q s.0 s.1 in
+    (low, high, c)
+  where
+    up_to : (q : ℕ) → q < 2 ^ 54 → q + 1 ≤ 2 ^ 54
+    up_to q g = omega arith
+
 pub rooted_fits : (n : ℕ) → T (fits binary64 (rooted n))
 unfolding rooted
 rooted_fits n = round-fits binary64 false (last (isqrt n) n) (2 ^ 601)
 
 -- ---- the bits and the value of the root of M * 2 ^ 54 * 4 ^ (h + 4), from the whole root q of M * 2 ^ 54
-module _ (M h q r : ℕ) (lo : 2 ^ 52 ≤ M) (hi : M < 2 ^ 54) (short : h < 1056) (e : q * q + r ≡ M * 2 ^ 54) (left : r ≤ q * 2) where
+module _ (M h q : ℕ) (lo : 2 ^ 52 ≤ M) (hi : M < 2 ^ 54) (short : h < 1056) (own : IsRoot q (M * 2 ^ 54)) where
   j : ℕ
   j = h + 4
 
@@ -93,30 +112,11 @@ module _ (M h q r : ℕ) (lo : 2 ^ 52 ≤ M) (hi : M < 2 ^ 54) (short : h < 1056
   unfolding j
   n = M * 2 ^ 54 * 4 ^ j
 
-  own : IsRoot q (M * 2 ^ 54)
-  own = is_root q r (M * 2 ^ 54) e left
-
-  as_units : rooted n ≡ units binary64 false ((q + 1) / 2) (h + 479)
+  pub as_units : rooted (M * 2 ^ 54 * 4 ^ (h + 4)) ≡ units binary64 false ((q + 1) / 2) (h + 479)
   unfolding rooted n j
   as_units =
-      let Q = isqrt n in
-      let W = last Q n in
-      let s = scaled q (M * 2 ^ 54) j Q own (isqrt_root n) in
-      let t = between q (2 ^ j) Q (cond (eqb (Q * Q) n) 0 1) s.0 s.1 (digit (eqb (Q * Q) n)) in
-      let p2 : 2 ^ j * 2 ≡ 2 ^ (j + 1) = powers j 1 (j + 1) refl in
-      let low : 2 ^ (j + 54) ≤ W =
-      le_trans (le_of_eq (sym (powers 53 (j + 1) (j + 54) (omega arith))))
-      (le_trans (mul-le-mul_right (2 ^ (j + 1)) (root_ge q M lo own)) (subst (λ (x : ℕ). q * x ≤ W) p2 t.0)) in
-      let high : W < 2 ^ (j + 55) =
-      lt_of_lt_of_le t.1
-      (le_trans (mul-le-mul_right (2 ^ j * 2) (up_to q (root_lt q M hi own)))
-      (le_of_eq (ap (λ (x : ℕ). 2 ^ 54 * x) p2 ∙ powers 54 (j + 1) (j + 55) (omega arith)))) in
-      let c : closest W (2 ^ (j + 2)) ≡ (q + 1) / 2 =
-      ap (λ (x : ℕ). closest W x) (sym (ap (λ (x : ℕ). x * 2) p2 ∙ powers (j + 1) 1 (j + 2) (omega arith))) ∙ nearest_half q M j Q s.0 s.1 in
-      rounded W j low high ∙ ap (λ (x : ℕ). units binary64 false x (j + 475)) c ∙ ap (λ (x : ℕ). units binary64 false ((q + 1) / 2) x) (omega arith)
-    where
-      up_to : (q : ℕ) → q < 2 ^ 54 → q + 1 ≤ 2 ^ 54
-      up_to q g = omega arith
+      let r = rounding M q j (isqrt n) lo hi own (isqrt_root n) in
+      rounded (last (isqrt n) n) j r.0 r.1 ∙ ap (λ (x : ℕ). units binary64 false x (j + 475)) r.2 ∙ ap (λ (x : ℕ). units binary64 false ((q + 1) / 2) x) (omega arith)
 
   half_ge : 2 ^ 52 ≤ (q + 1) / 2
   half_ge = omega (arith, root_ge q M lo own)

@@ -61,9 +61,11 @@ of_negative (fin false m e) A h p = absurd (true≢false (sym h.0))
 of_negative (fin true zero e) A h p = absurd (digits_of 0 (up e) (2 ^ 1074) A (down e) p (down_pos e) h.1 refl)
 of_negative (fin true (suc m) e) A h p = refl
 
-cut : (a A d : ℕ) → 0 < d → a * 2 ^ 1074 ≡ A * d → a * 2 ^ 1200 / d ≡ A * 2 ^ 126
-cut a A d D h =
-    ap (λ (x : ℕ). x / d) (sym (mul_assoc a (2 ^ 1074) (2 ^ 126)) ∙ ap (λ (x : ℕ). x * 2 ^ 126) h ∙ mul_right_comm A d (2 ^ 126)) ∙ mul-div_cancel (A * 2 ^ 126) D
+pub cut : (a A d k : ℕ) → 0 < d → a * 2 ^ 1074 ≡ A * d → a * 2 ^ (1074 + k) / d ≡ A * 2 ^ k
+cut a A d k D h =
+    ap (λ (x : ℕ). a * x / d) (sym (powers 1074 k (1074 + k) refl))
+    ∙ ap (λ (x : ℕ). x / d) (sym (mul_assoc a (2 ^ 1074) (2 ^ k)) ∙ ap (λ (x : ℕ). x * 2 ^ k) h ∙ mul_right_comm A d (2 ^ k))
+    ∙ mul-div_cancel (A * 2 ^ k) D
 
 pub of_positive : (v : Float) (A : ℕ) → HasValue v false A (2 ^ 1074) → 0 < A → rooted (A * 2 ^ 126) ≡ root_of v
 unfolding root_of
@@ -71,7 +73,7 @@ of_positive nan A h p = absurd h
 of_positive (inf t) A h p = absurd h
 of_positive (fin true m e) A h p = absurd (true≢false h.0)
 of_positive (fin false zero e) A h p = absurd (digits_of 0 (up e) (2 ^ 1074) A (down e) p (down_pos e) h.1 refl)
-of_positive (fin false (suc m) e) A h p = ap rooted (sym (cut (suc m * up e) A (down e) (down_pos e) h.1))
+of_positive (fin false (suc m) e) A h p = ap rooted (sym (cut (suc m * up e) A (down e) 126 (down_pos e) h.1))
 
 -- the normal form has the same value
 pub same_number : (g x s e : ℕ) → s * 2 ^ e ≡ g * 2 ^ (x + 64) → s * 2 ^ e * 2 ^ 62 ≡ g * 2 ^ x * 2 ^ 126

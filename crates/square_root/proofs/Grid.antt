@@ -1,8 +1,8 @@
 -- Doubles as whole numbers of units of 2 ^ -1074: at most 53 digits and zeros after them, so that large doubles are multiples of a power of two. Assumes nothing.
-use Rattle.std.proofs.Common.{◌≡◌, ℕ, zero, suc, ◌+◌, ◌-◌, ◌*◌, ◌/◌, ◌^◌, ◌<◌, ◌≤◌, Bool, false, T, ℤ, sym, refl, ap, ◌∙◌, subst, lt_of_lt_of_le, mul-le-mul_right, zero-lt-suc, mul_assoc, mul-le-mul_left, mul-lt-mul_of_pos_right, lt_of_not-le, zero-mul, not-le_of_lt, arith, pow_pos, pow_mono}
+use Rattle.std.proofs.Common.{◌≡◌, ℕ, zero, suc, ◌+◌, ◌-◌, ◌*◌, ◌/◌, ◌^◌, ◌<◌, ◌≤◌, Bool, false, T, ℤ, sym, refl, ap, ◌∙◌, subst, le_trans, lt_of_lt_of_le, mul-le-mul_right, zero-lt-suc, mul_assoc, mul-le-mul_left, mul-lt-mul_of_pos_right, lt_of_not-le, zero-mul, not-le_of_lt, arith, pow_pos, pow_mono}
 use native.Mathlib.Nat.{eq_of_mul-eq-mul_right}
 use lib.Ieee.{Float, nan, inf, fin, binary64, up, down, size, fits}
-use lib.Ieee.Digits.{size-lt, size-le, size_reaches}
+use lib.Ieee.Digits.{size-lt, size_reaches}
 use lib.Ieee.Exact.{HasValue}
 use lib.Ieee.Fits.{down_pos}
 use lib.Ieee.Scale.{finite}
@@ -73,30 +73,45 @@ multiple ny p c k =
 pub apart : (a b D : ℕ) → a * D < b * D → (a + 1) * D ≤ b * D
 apart a b D h = let k : a < b = lt_of_not-le (λ (l : b ≤ a). not-le_of_lt h (mul-le-mul_right D l)) in mul-le-mul_right D (omega arith)
 
--- ---- a significand of 53 digits, from one of fewer
+-- ---- a significand of 53 digits, from one of fewer, whose leading digit is that of 2 ^ l
 
-pub raised_ge : (g : ℕ) → 0 < g → g < 2 ^ 53 → 2 ^ 52 ≤ g * 2 ^ (53 - size g)
-raised_ge g p h =
-    let l : size g ≤ 53 = size-le g 53 h in
-    let k : 0 < size g = some (size g) (size-lt g) in
-    subst (λ (z : ℕ). z ≤ g * 2 ^ (53 - size g)) (powers (size g - 1) (53 - size g) 52 (omega arith))
-    (mul-le-mul_right (2 ^ (53 - size g)) (size_reaches g (size g - 1) (omega arith)))
+pub record Leading (g l : ℕ) : Type 0 where
+  pub low : 2 ^ l ≤ g
+  pub high : g < 2 * 2 ^ l
+  pub few : l ≤ 52
+
+pub leading : (g l : ℕ) → 2 ^ l ≤ g → g < 2 * 2 ^ l → g < 2 ^ 53 → Leading g l
+leading g l low high h =
+    record {
+      low = low;
+      high = high;
+      few = let k : l < 53 = lt_of_not-le (λ (k : 53 ≤ l). not-le_of_lt h (le_trans (pow_mono {i = 53} k) low)) in omega arith;
+    }
+
+pub raised_ge : (g l : ℕ) → Leading g l → 2 ^ 52 ≤ g * 2 ^ (52 - l)
+raised_ge g l r =
+    let whole : 2 ^ l * 2 ^ (52 - l) ≡ 2 ^ 52 = powers l (52 - l) 52 (omega (arith, r.few)) in
+    omega (arith, whole, mul-le-mul_right (2 ^ (52 - l)) r.low)
+
+pub raised_lt : (g l : ℕ) → Leading g l → g * 2 ^ (52 - l) < 2 ^ 53
+raised_lt g l r =
+    let whole : 2 ^ l * 2 ^ (52 - l) ≡ 2 ^ 52 = powers l (52 - l) 52 (omega (arith, r.few)) in
+    omega (arith, whole, mul-lt-mul_of_pos_right r.high (pow_pos (52 - l)))
+
+pub raised_same : (g l x : ℕ) → Leading g l → g * 2 ^ (52 - l) * 2 ^ (x + 64 - (52 - l)) ≡ g * 2 ^ (x + 64)
+raised_same g l x r =
+    mul_assoc g (2 ^ (52 - l)) (2 ^ (x + 64 - (52 - l))) ∙ ap (λ (z : ℕ). g * z) (powers (52 - l) (x + 64 - (52 - l)) (x + 64) (omega (arith, r.few)))
+
+-- the place of the leading digit, by the number of digits
+pub leading_place : (g : ℕ) → 0 < g → g < 2 ^ 53 → Leading g (size g - 1)
+leading_place g p h =
+    let some : 0 < size g = lt_of_not-le (λ (none : size g ≤ 0). not-le_of_lt p (one (size g) none (size-lt g))) in
+    let twice : 2 * 2 ^ (size g - 1) ≡ 2 ^ size g = powers 1 (size g - 1) (size g) (omega arith) in
+    leading g (size g - 1) (size_reaches g (size g - 1) (omega arith)) (omega (arith, twice, size-lt g)) h
   where
-    some : (k : ℕ) → g < 2 ^ k → 0 < k
-    some zero h = absurd (none g p h)
-      where
-        none : (g : ℕ) → 0 < g → g < 1 → ⊥
-        none g p h = omega arith
-    some (suc k) h = zero-lt-suc k
-
-pub raised_lt : (g : ℕ) → g < 2 ^ 53 → g * 2 ^ (53 - size g) < 2 ^ 53
-raised_lt g h =
-    let l : size g ≤ 53 = size-le g 53 h in
-    subst (λ (z : ℕ). g * 2 ^ (53 - size g) < z) (powers (size g) (53 - size g) 53 (omega arith)) (mul-lt-mul_of_pos_right (size-lt g) (pow_pos (53 - size g)))
-
-pub raised_same : (g x : ℕ) → g < 2 ^ 53 → g * 2 ^ (53 - size g) * 2 ^ (x + 64 - (53 - size g)) ≡ g * 2 ^ (x + 64)
-raised_same g x h =
-    mul_assoc g (2 ^ (53 - size g)) (2 ^ (x + 64 - (53 - size g))) ∙ ap (λ (z : ℕ). g * z) (powers (53 - size g) (x + 64 - (53 - size g)) (x + 64) (omega arith))
+    one : (k : ℕ) → k ≤ 0 → g < 2 ^ k → g ≤ 0
+    one zero l h = omega arith
+    one (suc k) l h = absurd (omega arith)
 
 pub factor_pos : (g x n : ℕ) → n ≡ g * 2 ^ x → 0 < n → 0 < g
 factor_pos zero x n e p = let z : 0 * 2 ^ x ≡ 0 = zero-mul (2 ^ x) in absurd (omega arith)

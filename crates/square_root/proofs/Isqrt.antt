@@ -1,5 +1,5 @@
 -- `isqrt` is the whole square root, and how it goes with a power of four. Assumes nothing.
-use Rattle.std.proofs.Common.{◌≡◌, ℕ, zero, suc, ◌+◌, ◌*◌, ◌/◌, ◌^◌, ◌<◌, ◌≤◌, Bool, true, false, cond, not, T, leb, sym, refl, ap, ◌∙◌, subst, le_trans, le_of_eq, lt_of_lt_of_le, le_of_suc-le-suc, lt_of_le_of_lt, mul-le-mul_right, div-lt_iff_lt-mul, mul-le-mul, mul-lt-mul_of_pos_right, mul-pos, pow-suc, lt_of_not-le, not-le_of_lt, add-one, arith, lit≤, leb→le, pow_pos}
+use Rattle.std.proofs.Common.{◌≡◌, ℕ, zero, suc, ◌+◌, ◌*◌, ◌/◌, ◌^◌, ◌<◌, ◌≤◌, Bool, true, false, cond, not, T, leb, sym, refl, ap, ◌∙◌, subst, le_trans, le_of_eq, le_antisymm, lt_of_lt_of_le, le_of_suc-le-suc, lt_of_le_of_lt, mul-le-mul_right, div-lt_iff_lt-mul, mul-le-mul, mul-lt-mul_of_pos_right, mul-pos, pow-suc, lt_of_not-le, not-le_of_lt, add-one, arith, lit≤, leb→le, pow_pos}
 use native.Mathlib.Nat.{mul-mul-mul_comm, pow-le-pow_left}
 use lib.Dec.{nleb→lt}
 use lib.Ieee.Digits.{size-lt}
@@ -58,3 +58,15 @@ scaled q N j Q h k =
       sq_lt Q ((q + 1) * p)
           (lt_of_le_of_lt k.0 hi),
     )
+
+-- a number has one whole root
+one_root : (q p n : ℕ) → IsRoot q n → IsRoot p n → q ≤ p
+one_root q p n h k = le_of_suc-le-suc (subst (λ (z : ℕ). q < z) (add-one p) (sq_lt q (p + 1) (lt_of_le_of_lt h.0 k.1)))
+
+pub root_is : (q r n : ℕ) → q * q + r ≡ n → r ≤ q * 2 → q ≡ isqrt n
+root_is q r n e h =
+    let own : IsRoot q n = (omega arith, omega arith) in
+    le_antisymm (one_root q (isqrt n) n own (isqrt_root n)) (one_root (isqrt n) q n (isqrt_root n) own)
+
+pub root_least : (b n : ℕ) → b * b ≤ n → b ≤ isqrt n
+root_least b n h = le_of_suc-le-suc (subst (λ (z : ℕ). b < z) (add-one (isqrt n)) (sq_lt b (isqrt n + 1) (lt_of_le_of_lt h (isqrt_root n).1)))

@@ -11,7 +11,7 @@ use Rattle.numbers.proofs.bits.Fields.{powers}
 use Rattle.square_root.specs.Roots.{isqrt, rooted, root_of}
 use Rattle.square_root.proofs.Isqrt.{IsRoot, isqrt_root, four_pow}
 use Rattle.square_root.proofs.Assembly.{value_is, rooted_fits, no_square, halves, root_ge, parted, doubled_lt, doubled_ge}
-use Rattle.square_root.proofs.Grid.{Multiple, counted, multiple, apart, raised_ge, raised_lt, raised_same, factor_pos}
+use Rattle.square_root.proofs.Grid.{Multiple, counted, multiple, apart, raised_ge, raised_lt, raised_same, leading_place, factor_pos}
 use Rattle.square_root.proofs.Middle.{above_at, below_even, below_odd}
 use Rattle.square_root.proofs.Cases.{of_positive, same_number}
 
@@ -39,7 +39,7 @@ module _ (v : Float) (nv M h q : ℕ) (is : HasValue v false nv (2 ^ 1074)) (pos
   root_value =
       subst (λ (u : ℕ). HasValue (root_of v) false ((q + 1) / 2 * u) (2 ^ 1074)) unit
       (subst (λ (y : Float). HasValue y false ((q + 1) / 2 * 2 ^ (h + 479)) (2 ^ 1074)) root_is
-      (value_is M h q (M * 2 ^ 54 - q * q) lo hi short (omega arith) (omega arith)))
+      (value_is M h q lo hi short own))
 
   -- the square of the exact root, in units
   square : M * 2 ^ 54 * (2 ^ (h + 478) * 2 ^ (h + 478)) ≡ nv * 2 ^ 1074
@@ -127,17 +127,38 @@ module _ (v : Float) (nv M h q : ℕ) (is : HasValue v false nv (2 ^ 1074)) (pos
         below = below_is;
       }
 
--- For every double v above zero: v is nv units, and the root is the nearest double.
-pub nearest_root : (v : Float) (nv : ℕ) → T (fits binary64 v) → HasValue v false nv (2 ^ 1074) → 0 < nv → NearestRoot v nv
-nearest_root v nv f is p =
+-- ---- every double above zero is one
+
+pub record Scaled (nv : ℕ) : Type 0 where
+  pub M : ℕ
+  pub h : ℕ
+  pub lo : 2 ^ 52 ≤ M
+  pub hi : M < 2 ^ 54
+  pub short : h < 1056
+  pub number : M * 2 ^ 54 * 4 ^ (h + 4) ≡ nv * 2 ^ 126
+
+pub scaled : (v : Float) (nv : ℕ) → T (fits binary64 v) → HasValue v false nv (2 ^ 1074) → 0 < nv → Scaled nv
+scaled v nv f is p =
     let c = counted v nv f is in
     let g = c.digits in
     let x = c.zeros in
-    let s = g * 2 ^ (53 - size g) in
-    let e = x + 64 - (53 - size g) in
-    let ge : 2 ^ 52 ≤ s = raised_ge g (factor_pos g x nv c.is p) c.small in
-    let lt : s < 2 ^ 53 = raised_lt g c.small in
-    let m = s * 2 ^ (e % 2) % 2 ^ 64 in
-    let number : m * 2 ^ 54 * 4 ^ (e / 2 + 4) ≡ nv * 2 ^ 126 =
-    parted s e lt ∙ same_number g x s e (raised_same g x c.small) ∙ ap (λ (n : ℕ). n * 2 ^ 126) (sym c.is) in
-    nearest v nv m (e / 2) (isqrt (m * 2 ^ 54)) is p (doubled_ge s e ge lt) (doubled_lt s e lt) (omega (arith, c.range)) (isqrt_root (m * 2 ^ 54)) number
+    let l = size g - 1 in
+    let r = leading_place g (factor_pos g x nv c.is p) c.small in
+    let s = g * 2 ^ (52 - l) in
+    let e = x + 64 - (52 - l) in
+    let ge : 2 ^ 52 ≤ s = raised_ge g l r in
+    let lt : s < 2 ^ 53 = raised_lt g l r in
+    record {
+      M = s * 2 ^ (e % 2) % 2 ^ 64;
+      h = e / 2;
+      lo = doubled_ge s e ge lt;
+      hi = doubled_lt s e lt;
+      short = omega (arith, c.range);
+      number = parted s e lt ∙ same_number g x s e (raised_same g l x r) ∙ ap (λ (n : ℕ). n * 2 ^ 126) (sym c.is);
+    }
+
+-- For every double v above zero: v is nv units, and the root is the nearest double.
+pub nearest_root : (v : Float) (nv : ℕ) → T (fits binary64 v) → HasValue v false nv (2 ^ 1074) → 0 < nv → NearestRoot v nv
+nearest_root v nv f is p =
+    let s = scaled v nv f is p in
+    nearest v nv s.M s.h (isqrt (s.M * 2 ^ 54)) is p s.lo s.hi s.short (isqrt_root (s.M * 2 ^ 54)) s.number

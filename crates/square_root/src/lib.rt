@@ -1,87 +1,74 @@
 // The square root of an f64, rounded once, and the power 2.5 that is made of it.
 #![tactic(auto)]
 
-ghost use Rattle.std.specs.Prelude.{◌≡◌, ◌+◌, ◌*◌, ◌^◌, ◌<◌, ◌≤◌};
-ghost use Rattle.square_root.specs.Roots.{rooted, root_of, power_of};
+ghost use Rattle.std.specs.Prelude.{◌≡◌, ℕ, ◌+◌, ◌*◌, ◌^◌, ◌<◌, ◌≤◌};
+ghost use Rattle.square_root.specs.Roots.{isqrt, rooted, root_of, power_of};
 
-use numbers::bits::Parts;
+use numbers::bits::{Parts, split};
 use numbers::rounding::cut;
-use std::num::nearest_u64_to_f64;
+use std::marker::Model;
+use std::num::{f64_from_bits_with_nan, nearest_u64_to_f64};
 
-// A whole root, and what its square leaves of the number.
-#[derive(Clone, Copy)]
+// The whole root of a number, and what its square leaves of the number: at most twice the root, or the root would be higher. Contracts see the number.
+#[derive(Drop)]
 struct WholeRoot {
     root: u64,
     remainder: u64,
 }
 
-// One more binary digit of the root, from the next two digits of the number.
-fn next_digit(r: WholeRoot, pair: u64) -> WholeRoot
-    requires { (r.remainder ≤ r.root * 2) × (r.root < 2 ^ 60) × (pair < 4) }
-    ensures { (result.root * result.root + result.remainder ≡ (r.root * r.root + r.remainder) * 4 + pair)
-        × (result.remainder ≤ result.root * 2)
-        × (result.root ≤ r.root * 2 + 1) }
-{
-    let remainder = r.remainder * 4 + pair;
-    let trial = r.root * 4 + 1;
-    if trial <= remainder {
-        WholeRoot {
-            root: r.root * 2 + 1,
-            remainder: remainder - trial,
-        }
-    } else {
-        WholeRoot {
-            root: r.root * 2,
-            remainder,
-        }
-    }
+impl Model for WholeRoot {
+    ghost Value = { ℕ };
+
+    ghost view = { λ r. r.root * r.root + r.remainder };
+
+    ghost invariant = { λ r. r.remainder ≤ r.root * 2 };
 }
 
-// The whole root of m: its digits leave at the top of `rest`, two by two.
-fn quarter_root(m: u64) -> WholeRoot
-    requires { m < 2 ^ 28 }
-    ensures { (result.root * result.root + result.remainder ≡ m)
-        × (result.remainder ≤ result.root * 2)
-        × (result.root < 2 ^ 14) }
-{
-    let mut rest = m << 36;
-    let mut root = 0u64;
-    let mut remainder = 0u64;
-    let mut i = 0u64;
-    while i < 14 {
-        let q = next_digit(WholeRoot { root, remainder }, rest >> 62);
-        root = q.root;
-        remainder = q.remainder;
-        rest = rest << 2;
-        i += 1;
+impl WholeRoot {
+    fn root(self) -> u64
+        ensures { result ≡ isqrt self }
+    {
+        self.root
     }
-    WholeRoot { root, remainder }
-}
 
-// More digits x of the root h by one division, from the number's next digits, as (h * p + x)² is h² * p² + h * 2 * x * p + x². The quotient
-// leaves out x², which is at most p² and so at most h * 2 * p: the last digit is right, or one too high.
-fn more_digits(r: WholeRoot, p: u64, upper: u64, lower: u64) -> WholeRoot
-    requires { (r.remainder ≤ r.root * 2)
-        × (r.root < 2 ^ 27)
-        × (p ≤ r.root * 2)
-        × (p ≤ 2 ^ 27)
-        × (upper < p)
-        × (lower < p) }
-    ensures { (result.root * result.root + result.remainder ≡ ((r.root * r.root + r.remainder) * p + upper) * p + lower)
-        × (result.remainder ≤ result.root * 2) }
-{
-    let twice = r.root * 2;
-    let dividend = r.remainder * p + upper;
-    let digits = dividend / twice;
-    let left = dividend % twice * p + lower;
-    let root = r.root * p + digits;
-    let square = digits * digits;
-    if square <= left {
-        WholeRoot {
-            root,
-            remainder: left - square,
+    // One more binary digit of the root, from the next two digits of the number.
+    fn next_digit(self, pair: u64) -> WholeRoot
+        requires { (self < 2 ^ 120) × (pair < 4) }
+        ensures { result ≡ self * 4 + pair }
+    {
+        let remainder = self.remainder * 4 + pair;
+        let trial = self.root * 4 + 1;
+        if trial <= remainder {
+            WholeRoot {
+                root: self.root * 2 + 1,
+                remainder: remainder - trial,
+            }
+        } else {
+            WholeRoot {
+                root: self.root * 2,
+                remainder,
+            }
         }
-    } else {
+    }
+
+    // More digits x of the root h by one division, from the number's next digits, as (h * p + x)² is h² * p² + h * 2 * x * p + x². The quotient
+    // leaves out x², which is at most p² and so at most h * 2 * p: the last digit is right, or one too high.
+    fn more_digits(self, p: u64, upper: u64, lower: u64) -> WholeRoot
+        requires { (self < 2 ^ 54) × (p ≤ isqrt self * 2) × (p ≤ 2 ^ 27) × (upper < p) × (lower < p) }
+        ensures { result ≡ (self * p + upper) * p + lower }
+    {
+        let twice = self.root * 2;
+        let dividend = self.remainder * p + upper;
+        let digits = dividend / twice;
+        let left = dividend % twice * p + lower;
+        let root = self.root * p + digits;
+        let square = digits * digits;
+        if square <= left {
+            return WholeRoot {
+                root,
+                remainder: left - square,
+            };
+        }
         WholeRoot {
             root: root - 1,
             remainder: left + root * 2 - 1 - square,
@@ -89,19 +76,19 @@ fn more_digits(r: WholeRoot, p: u64, upper: u64, lower: u64) -> WholeRoot
     }
 }
 
-// The whole root of m: 14 digits by turns, the other 13 by a division.
-fn half_root_by_digits(m: u64) -> WholeRoot
-    requires { (2 ^ 52 ≤ m) × (m < 2 ^ 54) }
-    ensures { (result.root * result.root + result.remainder ≡ m)
-        × (result.remainder ≤ result.root * 2)
-        × (result.root < 2 ^ 27) }
+// The whole root of m, from two digits of m in each turn.
+fn quarter_root(m: u64) -> WholeRoot
+    requires { m < 2 ^ 28 }
+    ensures { result ≡ m }
 {
-    more_digits(
-        quarter_root(m >> 26),
-        0x2000,
-        (m >> 13) % 0x2000,
-        m % 0x2000,
-    )
+    let mut root = WholeRoot {
+        root: 0,
+        remainder: 0,
+    };
+    for i in (0..14u64).rev() {
+        root = root.next_digit((m >> (2 * i)) % 4);
+    }
+    root
 }
 
 // Heron's rule: of a relative error e of y as the root of t about e² / 2 is left.
@@ -109,41 +96,52 @@ fn heron(t: f64, y: f64) -> f64 {
     0.5 * (y + t / y)
 }
 
-// A guess at the whole root of m. Nothing leans on it but speed: turns that depend on the digits cost more, as no processor foresees them.
-fn guess(m: u64) -> u64
-    ensures { result < 2 ^ 31 }
-{
-    let t = nearest_u64_to_f64(m) / 18014398509481984.0;
-    let parabola = 0.2593 + t * (1.052 - t * 0.3163);
-    cut(heron(t, heron(t, parabola)) * 134217728.0)
+// A number of 53 or 54 binary digits whose root is taken.
+#[derive(Clone, Copy)]
+struct Radicand {
+    m: u64,
+    ghost long: { 2 ^ 52 ≤ m },
+    ghost short: { m < 2 ^ 54 },
 }
 
-// The whole root of m: the guess, where it is right.
-fn half_root(m: u64) -> WholeRoot
-    requires { (2 ^ 52 ≤ m) × (m < 2 ^ 54) }
-    ensures { (result.root * result.root + result.remainder ≡ m)
-        × (result.remainder ≤ result.root * 2)
-        × (result.root < 2 ^ 27) }
-{
-    let root = guess(m);
-    let square = root * root;
-    if square <= m {
-        let remainder = m - square;
-        if remainder <= root * 2 {
-            return WholeRoot { root, remainder };
-        }
+impl Radicand {
+    // The whole root of m: 14 digits by turns, the other 13 by a division.
+    fn half_root_by_digits(self) -> WholeRoot
+        ensures { result ≡ self.m }
+    {
+        quarter_root(self.m >> 26).more_digits(0x2000, (self.m >> 13) % 0x2000, self.m % 0x2000)
     }
-    half_root_by_digits(m)
-}
 
-// The whole root of m * 2 ^ 54, a number of up to 108 digits, in 64-bit words.
-fn whole_root(m: u64) -> WholeRoot
-    requires { (2 ^ 52 ≤ m) × (m < 2 ^ 54) }
-    ensures { (result.root * result.root + result.remainder ≡ m * 2 ^ 54)
-        × (result.remainder ≤ result.root * 2)
-        × (result.root < 2 ^ 54) }
-{
-    more_digits(half_root(m), 0x800_0000, 0, 0)
+    // A guess at the whole root of m. Nothing leans on it but speed: turns that depend on the digits cost more, as no processor foresees them.
+    fn guess(self) -> u64
+        ensures { result < 2 ^ 31 }
+    {
+        let t = nearest_u64_to_f64(self.m) / 18014398509481984.0;
+        let parabola = 0.2593 + t * (1.052 - t * 0.3163);
+        cut(heron(t, heron(t, parabola)) * 134217728.0)
+    }
+
+    // The whole root of m: the guess, where it is right.
+    fn half_root(self) -> WholeRoot
+        ensures { result ≡ self.m }
+    {
+        let root = self.guess();
+        let square = root * root;
+        if square <= self.m {
+            let remainder = self.m - square;
+            if remainder <= root * 2 {
+                return WholeRoot { root, remainder };
+            }
+        }
+        self.half_root_by_digits()
+    }
+
+    // The whole root of m * 2 ^ 54, a number of up to 108 digits, in 64-bit words.
+    fn whole_root(self) -> WholeRoot
+        ensures { result ≡ self.m * 2 ^ 54 }
+    {
+        self.half_root().more_digits(0x800_0000, 0, 0)
+    }
 }
 
 // A number significand * 2 ^ exponent, with 53 digits in the significand.
@@ -151,46 +149,43 @@ fn whole_root(m: u64) -> WholeRoot
 struct Normal {
     significand: u64,
     exponent: u64,
+    ghost long: { 2 ^ 52 ≤ significand },
+    ghost short: { significand < 2 ^ 53 },
+    ghost in_range: { exponent < 2110 },
 }
 
-// The exponent is raised by 64 first, so that it stays above 0 for a significand of few digits.
-fn normalised(significand: u64, exponent: u64) -> Normal
-    requires { (0 < significand) × (significand < 2 ^ 53) × (exponent < 2046) }
-    ensures { (result.significand * 2 ^ result.exponent ≡ significand * 2 ^ (exponent + 64))
-        × (2 ^ 52 ≤ result.significand)
-        × (result.significand < 2 ^ 53)
-        × (result.exponent < 2110) }
-{
-    let mut s = significand;
-    let mut e = exponent + 64;
-    while s < 0x10_0000_0000_0000 {
-        s = s * 2;
-        e -= 1;
+impl Normal {
+    // The exponent is raised by 64 first, so that it stays above 0 for a significand of few digits.
+    fn new(significand: u64, exponent: u64) -> Self
+        requires { (0 < significand) × (significand < 2 ^ 53) × (exponent < 2046) }
+        ensures { result.significand * 2 ^ result.exponent ≡ significand * 2 ^ (exponent + 64) }
+    {
+        let shift = 52 - significand.ilog2() as u64;
+        Normal {
+            significand: significand << shift,
+            exponent: exponent + 64 - shift,
+        }
     }
-    Normal {
-        significand: s,
-        exponent: e,
-    }
-}
 
-// √(significand * 2 ^ exponent / 2 ^ 1138), for a significand of 53 digits. The whole root has 54: the last one rounds, and there is no tie.
-fn root_of_normal(significand: u64, exponent: u64) -> f64
-    requires { (2 ^ 52 ≤ significand) × (significand < 2 ^ 53) × (exponent < 2110) }
-    ensures { result ≡ rooted (significand * 2 ^ exponent * 2 ^ 62) }
-{
-    let odd = exponent % 2;
-    let half = exponent / 2;
-    let q = whole_root(significand << odd);
-    let digits = (q.root + 1) / 2;
-    numbers::bits::f64_from_bits(((half + 479) << 52) + digits)
+    // √(significand * 2 ^ exponent / 2 ^ 1138). The whole root has 54 digits: the last one rounds, and there is no tie.
+    fn root(self) -> f64
+        ensures { result ≡ rooted (self.significand * 2 ^ self.exponent * 2 ^ 62) }
+    {
+        let odd = self.exponent % 2;
+        let half = self.exponent / 2;
+        let radicand = Radicand {
+            m: self.significand << odd,
+        };
+        let digits = (radicand.whole_root().root() + 1) / 2;
+        f64_from_bits_with_nan(((half + 479) << 52) + digits)
+    }
 }
 
 // The f64 nearest to the exact square root.
 pub fn root(v: f64) -> f64
     ensures { result ≡ root_of v }
 {
-    let parts = numbers::bits::split(v);
-    match parts {
+    match split(v) {
         Parts::NotANumber => v,
         Parts::Infinite { negative } => if negative { 0.0 / 0.0 } else { v },
         Parts::Finite {
@@ -204,13 +199,13 @@ pub fn root(v: f64) -> f64
             if negative {
                 return 0.0 / 0.0;
             }
-            let n = normalised(significand, exponent);
-            root_of_normal(n.significand, n.exponent)
+            Normal::new(significand, exponent).root()
         }
     }
 }
 
 // The stand-in for Rust's `powf(v, 2.5)`.
+#[tactic(auto, unfolding(crate::specs::Roots::power_of))]
 pub fn powf_2_5(v: f64) -> f64
     ensures { result ≡ power_of v }
 {

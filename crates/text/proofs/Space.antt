@@ -77,9 +77,6 @@ pub record Written (l : List ℕ) (at : ℕ) (t s : List ℕ) (p : ℕ) : Type 0
 abbrev pub Puts : List ℕ → ℕ → List ℕ → List ℕ → ℕ → Type 0
 Puts l at t s p = (p ≡ behind l at t) × (s ≡ put_at l at t)
 
-pub first : (l : List ℕ) (at : ℕ) (t : List ℕ) {s : List ℕ} {p : ℕ} → Puts l at t s p → Written l at t s p
-first l at t (place, space) = record { place = place; space = space }
-
 -- one more piece
 pub next : {l : List ℕ} {at : ℕ} {t s : List ℕ} {p : ℕ} → Written l at t s p → (y : List ℕ) {s' : List ℕ} {p' : ℕ} → Puts s p y s' p'
     → Written l at (t ++ y) s' p'
@@ -88,3 +85,5 @@ next {l} {at} {t} {s} {p} w y (place, space) =
       place = rw (w.space, w.place) at place ∙ behind-behind l at t y;
       space = rw (w.space, w.place) at space ∙ put_put l at t y;
     }
+
+pub ruleset pieces = (put_put, behind-behind, length_put)

@@ -35,3 +35,5 @@ pub raised_end : (e : ℕ) (b : List ℕ) → e ≤ 0 → raised e b ≡ b
 unfolding raised
 raised_end zero b h = refl
 raised_end (suc e) b h = absurd (not-suc-le-zero h)
+
+pub ruleset clearing = (cleared-none, cleared_next)

@@ -13,7 +13,7 @@ use lib.Pow.{pow_pos}
 use lib.Seq.{drop_at}
 use borrow.Author.Tests.{lt-ltb, le-ltb}
 use Rattle.rules.specs.Limits.{max_objects, max_bonus}
-use Rattle.rules.specs.Refusals.{good, refused}
+use Rattle.rules.specs.Refusals.{good, refused, BONUS}
 use Rattle.records.specs.Objects.{Object, kind_bonus, bonus}
 use Rattle.encoding.specs.Limits.{Each, none, one, ObjectWithin}
 use Rattle.entries.specs.Entry.{none as noEntry, entry_of, in_limits, place_words, entry_words}
@@ -134,11 +134,11 @@ module _ (os : List Object) (r : List ℕ) (w : Each ObjectWithin os) (few : len
     top_legacy = ap (λ (e : Entry). e.legacy_bonus_score) top_is ∙ legacy_is (set os p o)
 
     finished : Climbs l os p o in_places b l (2 ^ l + p) (entry_of (o ∷ []))
-        → climbed l b (2 ^ l + p) (entry_of (o ∷ [])) ≡ cond (ltb max_bonus (bonus (set os p o))) (refused 7) (good (board_of (set os p o) ++ r))
+        → climbed l b (2 ^ l + p) (entry_of (o ∷ [])) ≡ cond (ltb max_bonus (bonus (set os p o))) (refused BONUS) (good (board_of (set os p o) ++ r))
     finished (high q up) = simp (lt-ltb max_bonus (bonus (set os p o)) (omega (arith, up, top_legacy))) q
     finished (done b' q ends a) = simp (le-ltb max_bonus (bonus (set os p o)) (omega (arith, ends, top_legacy))) (q ∙ ap good (left_is b' a))
 
-    climb_right : climbed l b (2 ^ l + p) (entry_of (o ∷ [])) ≡ cond (ltb max_bonus (bonus (set os p o))) (refused 7) (good (board_of (set os p o) ++ r))
+    climb_right : climbed l b (2 ^ l + p) (entry_of (o ∷ [])) ≡ cond (ltb max_bonus (bonus (set os p o))) (refused BONUS) (good (board_of (set os p o) ++ r))
     climb_right =
         finished (climbs l os p o in_places b honest room top light_top l (2 ^ l + p) (entry_of (o ∷ [])) (top_of l p in_places)
         (omega (arith, pow_pos l), omega (arith, in_places)) (λ two x le off. off) (sym (entry_leaf l os p o in_p)) leaf_low)
@@ -147,7 +147,7 @@ module _ (os : List Object) (r : List ℕ) (w : Each ObjectWithin os) (few : len
 pub change : (os : List Object) (r : List ℕ) (p : ℕ) (o : Object) → Each ObjectWithin os → length os ≤ max_objects → bonus os ≤ max_bonus → ObjectWithin o
     → p < length os
     → climbed (levels_of (length os)) (board_of os ++ r) (cap_of (length os) + p) (entry_of (o ∷ []))
-    ≡ cond (ltb max_bonus (bonus (set os p o))) (refused 7) (good (board_of (set os p o) ++ r))
+    ≡ cond (ltb max_bonus (bonus (set os p o))) (refused BONUS) (good (board_of (set os p o) ++ r))
 change os r p o w few low within in_p = climb_right os r w few low p o within in_p
 
 pub first_right : (os : List Object) (r : List ℕ) → Each ObjectWithin os → length os ≤ max_objects → bonus os ≤ max_bonus → (p : ℕ) → p ≤ length os

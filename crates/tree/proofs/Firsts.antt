@@ -1,4 +1,5 @@
 -- The steps of `walked`, as the code takes them: an entry looked at reaches no further than the board.
+use Rattle.rules.specs.declared.refusal.Rule.{Rule}
 use Prim.Native.Nat.{ℕ, zero, suc, ◌+◌, ◌-◌, ◌*◌, ◌/◌, ◌^◌, ◌≤◌, ◌<◌}
 use mathlib.Core.Path.{◌≡◌, refl, sym, ap, ◌∙◌, subst}
 use mathlib.Core.Bool.{Bool, true, false, not, cond}
@@ -10,16 +11,13 @@ use lib.Dec.{ltb}
 use lib.ListN.{length}
 use lib.Pow.{pow_pos}
 use Rattle.rules.specs.Limits.{max_objects}
-use Rattle.rules.specs.Refusals.{Checked, good, refused, ◌>>=◌, ◌>>◌, refuse◌when◌}
+use Rattle.rules.specs.Refusals.{Checked, good, refused, ◌>>=◌, ◌>>◌, refuse◌when◌, BOARD}
 use Rattle.entries.specs.Entry.{none, joined, in_limits, place_words, entry_words}
 use Rattle.entries.specs.Words.{entry_at}
 use Rattle.entries.specs.declared.entry.Entry.{Entry}
-use Rattle.tree.specs.Limited.{limited, after_of, combined_of}
+use Rattle.tree.specs.Limited.{limited, after_of}
 use Rattle.tree.specs.First.{walked, taken, turned_of}
-use Rattle.tree.specs.declared.combine.Combined.TheVariants as combined
 use Rattle.tree.specs.declared.first.Prefix.{Prefix}
-use Rattle.tree.specs.declared.first.Turned.{Turned}
-use Rattle.tree.specs.declared.first.Turned.TheVariants as turned
 use Rattle.tree.proofs.Climbs.{limited_in}
 use Rattle.rules.proofs.Laws.{never}
 
@@ -27,11 +25,11 @@ pub none_in : in_limits none ≡ true
 unfolding in_limits
 none_in = refl
 
-after_in : (a w u : Entry) → after_of a w ≡ good u → in_limits u ≡ true
+pub after_in : (a w u : Entry) → after_of a w ≡ good u → in_limits u ≡ true
 unfolding after_of ◌>>◌ refuse◌when◌
 after_in a w u h = go (in_limits w) h
   where
-    go : (x : Bool) → ((refuse 13 when not x) >> limited (joined a w)) ≡ good u → in_limits u ≡ true
+    go : (x : Bool) → ((refuse BOARD when not x) >> limited (joined a w)) ≡ good u → in_limits u ≡ true
     go false h = never (cc)
     go true h = limited_in (joined a w) u h
 
@@ -61,7 +59,7 @@ module _ (b : List ℕ) (x p : ℕ) (a : Entry) where
       let g' : 2 ^ n ≤ p = rw z at g in
       rw (z, le-leb _ _ g', q)
 
-  stops : (n k : ℕ) → 0 < n → 2 ^ (n - 1) ≤ p → after_of a (entry_at b x) ≡ refused k → walked n b x p a ≡ refused k
+  stops : (n : ℕ) (k : Rule) → 0 < n → 2 ^ (n - 1) ≤ p → after_of a (entry_at b x) ≡ refused k → walked n b x p a ≡ refused k
   unfolding walked ◌>>=◌
   stops zero k h g q = absurd (not-suc-le-zero h)
   stops (suc n) k h g q =
@@ -75,24 +73,24 @@ at_end zero b x p a h = refl
 at_end (suc n) b x p a h = absurd (not-suc-le-zero h)
 
 -- ---- the loop's invariant
-abbrev walked_at : List ℕ → Prefix → Checked Entry
-walked_at b t = walked t.left b t.x t.rest t.sum
+abbrev walked_at : ℕ → List ℕ → Prefix → Checked Entry
+walked_at left b t = walked left b t.x t.rest t.sum
 
-pub record Walking (b : List ℕ) (t₀ t : Prefix) : Type 0 where
-  pub same : walked_at b t ≡ walked_at b t₀
-  pub width : t.width ≡ 2 ^ t.left / 2
+pub record Walking (b : List ℕ) (levels : ℕ) (t₀ : Prefix) (left : ℕ) (t : Prefix) : Type 0 where
+  pub same : walked_at left b t ≡ walked_at levels b t₀
+  pub width : t.width ≡ 2 ^ left / 2
   pub reach : t.x * t.width + t.rest ≤ 2 * t₀.width
   pub fit : in_limits t.sum ≡ true
   pub cap : t₀.width ≤ max_objects
   pub room : t₀.width * place_words ≤ length b
 
-module _ {b : List ℕ} {t₀ t : Prefix} (k : Walking b t₀ t) where
-  module _ (pos : 0 < t.left) where
-    width_is : t.width ≡ 2 ^ (t.left - 1)
-    width_is = k.width ∙ half_pow t.left pos
+module _ {b : List ℕ} {levels left : ℕ} {t₀ t : Prefix} (k : Walking b levels t₀ left t) where
+  module _ (pos : 0 < left) where
+    width_is : t.width ≡ 2 ^ (left - 1)
+    width_is = k.width ∙ half_pow left pos
 
     some : 0 < t.width
-    some = subst (λ (m : ℕ). 0 < m) (sym width_is) (pow_pos (t.left - 1))
+    some = subst (λ (m : ℕ). 0 < m) (sym width_is) (pow_pos (left - 1))
 
     pub x_small : t.x ≤ (2 * max_objects)
     x_small =
@@ -111,12 +109,12 @@ module _ {b : List ℕ} {t₀ t : Prefix} (k : Walking b t₀ t) where
         omega (arith, n, m, o, r, c, h)
 
     -- the two cases of a turn
-    skipped : t.rest < t.width → Walking b t₀ (record { left = t.left - 1; x = t.x * 2; width = t.width / 2; rest = t.rest; sum = t.sum })
+    skipped : t.rest < t.width → Walking b levels t₀ (left - 1) (record { x = t.x * 2; width = t.width / 2; rest = t.rest; sum = t.sum })
     skipped h =
         let reach = k.reach in
         let less = halved t.x t.width in
         record {
-          same = sym (skips b t.x t.rest t.sum t.left pos (subst (λ (m : ℕ). t.rest < m) width_is h)) ∙ k.same;
+          same = sym (skips b t.x t.rest t.sum left pos (subst (λ (m : ℕ). t.rest < m) width_is h)) ∙ k.same;
           width = ap (λ (m : ℕ). m / 2) width_is;
           reach = omega (arith, less, reach);
           fit = k.fit;
@@ -125,7 +123,7 @@ module _ {b : List ℕ} {t₀ t : Prefix} (k : Walking b t₀ t) where
         }
 
     took : (u : Entry) → t.width ≤ t.rest → after_of t.sum (entry_at b t.x) ≡ good u
-        → Walking b t₀ (record { left = t.left - 1; x = (t.x + 1) * 2; width = t.width / 2; rest = t.rest - t.width; sum = u })
+        → Walking b levels t₀ (left - 1) (record { x = (t.x + 1) * 2; width = t.width / 2; rest = t.rest - t.width; sum = u })
     took u h q =
         let reach = k.reach in
         let less = halved (t.x + 1) t.width in
@@ -133,8 +131,8 @@ module _ {b : List ℕ} {t₀ t : Prefix} (k : Walking b t₀ t) where
         let o = one-mul t.width in
         record {
           same =
-              ap (λ (m : ℕ). walked (t.left - 1) b ((t.x + 1) * 2) (t.rest - m) u) width_is
-              ∙ sym (takes b t.x t.rest t.sum t.left u pos (subst (λ (m : ℕ). m ≤ t.rest) width_is h) q)
+              ap (λ (m : ℕ). walked (left - 1) b ((t.x + 1) * 2) (t.rest - m) u) width_is
+              ∙ sym (takes b t.x t.rest t.sum left u pos (subst (λ (m : ℕ). m ≤ t.rest) width_is h) q)
               ∙ k.same;
           width = ap (λ (m : ℕ). m / 2) width_is;
           reach = omega (arith, less, reach, m, o, h);
@@ -143,42 +141,39 @@ module _ {b : List ℕ} {t₀ t : Prefix} (k : Walking b t₀ t) where
           room = k.room;
         }
 
-    pub data After : Turned → Type 0 where
-      goes : {next : Prefix} → next.left < t.left → Walking b t₀ next → After (turned.Next next)
-      ends : {n : ℕ} → walked_at b t₀ ≡ refused n → After (turned.Refused n)
-
-    less : t.left - 1 < t.left
-    less = omega (arith, pos)
+    pub data After : Checked Prefix → Type 0 where
+      goes : {next : Prefix} → Walking b levels t₀ (left - 1) next → After (good next)
+      ends : {n : Rule} → walked_at levels b t₀ ≡ refused n → After (refused n)
 
     pub after : After (turned_of b t)
     after = go (ltb t.rest t.width) refl
       where
         read : t.width ≤ t.rest → (x : Checked Entry) → after_of t.sum (entry_at b t.x) ≡ x → After (taken t x)
-        read h (refused n) q = ends (sym k.same ∙ stops b t.x t.rest t.sum t.left n pos (subst (λ (m : ℕ). m ≤ t.rest) width_is h) q)
-        read h (good u) q = goes less (took u h q)
+        read h (refused n) q = ends (sym k.same ∙ stops b t.x t.rest t.sum left n pos (subst (λ (m : ℕ). m ≤ t.rest) width_is h) q)
+        read h (good u) q = goes (took u h q)
 
         go : (c : Bool) → ltb t.rest t.width ≡ c
-            → After (cond c (turned.Next (record { left = t.left - 1; x = t.x * 2; width = t.width / 2; rest = t.rest; sum = t.sum })) (taken t (after_of t.sum (entry_at b t.x))))
-        go true e = goes less (skipped (ltb-true t.rest t.width e))
+            → After (cond c (good (record { x = t.x * 2; width = t.width / 2; rest = t.rest; sum = t.sum })) (taken t (after_of t.sum (entry_at b t.x))))
+        go true e = goes (skipped (ltb-true t.rest t.width e))
         go false e = read (ltb-false t.rest t.width e) (after_of t.sum (entry_at b t.x)) refl
 
-    pub after_next : (next : Prefix) → turned.Next next ≡ turned_of b t → (next.left < t.left) × Walking b t₀ next
+    pub after_next : (next : Prefix) → good next ≡ turned_of b t → Walking b levels t₀ (left - 1) next
     after_next next e = out (subst After (sym e) after)
       where
-        out : After (turned.Next next) → (next.left < t.left) × Walking b t₀ next
-        out (goes a w) = (a, w)
+        out : After (good next) → Walking b levels t₀ (left - 1) next
+        out (goes w) = w
 
-    pub after_end : (n : ℕ) → turned.Refused n ≡ turned_of b t → combined.Refused n ≡ combined_of (walked_at b t₀)
+    pub after_end : (n : Rule) → refused n ≡ turned_of b t → refused n ≡ walked_at levels b t₀
     after_end n e = out (subst After (sym e) after)
       where
-        out : After (turned.Refused n) → combined.Refused n ≡ combined_of (walked_at b t₀)
-        out (ends q) = sym (ap combined_of q)
+        out : After (refused n) → refused n ≡ walked_at levels b t₀
+        out (ends q) = sym q
 
-  pub at_last : t.left ≤ 0 → combined.Is t.sum ≡ combined_of (walked_at b t₀)
-  at_last h = sym (ap combined_of (sym k.same ∙ at_end t.left b t.x t.rest t.sum h))
+  pub at_last : left ≤ 0 → good t.sum ≡ walked_at levels b t₀
+  at_last h = sym (sym k.same ∙ at_end left b t.x t.rest t.sum h)
 
 pub walking_start : (b : List ℕ) (levels cap p : ℕ) → cap ≡ 2 ^ levels → cap ≤ max_objects → p ≤ cap → cap * place_words ≤ length b
-    → Walking b (record { left = levels + 1; x = 1; width = cap; rest = p; sum = none }) (record { left = levels + 1; x = 1; width = cap; rest = p; sum = none })
+    → Walking b (levels + 1) (record { x = 1; width = cap; rest = p; sum = none }) (levels + 1) (record { x = 1; width = cap; rest = p; sum = none })
 walking_start b levels cap p e few least room =
     let z : levels + 1 - 1 ≡ levels = omega arith in
     let w : 2 ^ (levels + 1) / 2 ≡ 2 ^ levels = half_pow (levels + 1) (omega arith) ∙ ap (λ (n : ℕ). 2 ^ n) z in

@@ -6,13 +6,13 @@ use mathlib.Core.Logic.{◌≢◌, ◌⊎◌, inl, inr}
 use mathlib.Core.Bool.{Bool, true, false, cond}
 use mathlib.Core.List.{List}
 use native.Mathlib.Omega.{arith}
-use native.Mathlib.Nat.{suc-ne-zero}
 use native.Mathlib.Decide.{ℕ_discrete}
 use borrow.Author.Tests.{eq-eqb, ne_eqb, lt-ltb, ltb-true, ltb-false}
 use lib.Dec.{ltb}
 use lib.ListN.{length, set}
 use Rattle.rules.specs.Limits.{max_bonus}
-use Rattle.rules.specs.Refusals.{Checked, good, refused, ◌>>◌, refuse◌when◌}
+use Rattle.rules.specs.Refusals.{good, refused, ◌>>=◌, ◌>>◌, refuse◌when◌, BONUS}
+use Rattle.rules.proofs.Steps.{bind_good, bind_refused}
 use Rattle.records.specs.Objects.{Object}
 use Rattle.entries.specs.Entry.{joined, in_limits, entry_words}
 use Rattle.entries.specs.Words.{entry_at, put_entry}
@@ -21,7 +21,7 @@ use Rattle.entries.proofs.WordLaws.{put_same, put_other}
 use Rattle.tree.specs.Limited.{without_legacy, limited}
 use Rattle.tree.specs.Put.{beside_of, above_of, climbed}
 use Rattle.tree.specs.Board.{entry_in}
-use Rattle.tree.proofs.Climbs.{above_is, limited_low, at_top, stops, stops_above, goes_on}
+use Rattle.tree.proofs.Climbs.{above_is, limited_low, at_top, one_level}
 use Rattle.tree.proofs.Covers.{entry_node, entry_off, Off, Top, top_two, even, odd}
 use Rattle.tree.proofs.Kept.{Kept, stored, stored_more}
 use Rattle.tree.proofs.Within.{all_in, all_light, legacy_top}
@@ -54,7 +54,7 @@ off_above zero x e h = omega arith
 off_above (suc n) x e h = (omega arith, off_above n x (e / 2) (omega arith))
 
 -- ---- an entry whose words but the legacy bonus are within the limits
-limited_high : (e : Entry) → in_limits (without_legacy e) ≡ true → max_bonus < e.legacy_bonus_score → limited e ≡ refused 7
+limited_high : (e : Entry) → in_limits (without_legacy e) ≡ true → max_bonus < e.legacy_bonus_score → limited e ≡ refused BONUS
 unfolding limited ◌>>◌ refuse◌when◌
 limited_high e h l = simp (h, lt-ltb _ _ l)
 
@@ -82,7 +82,7 @@ module _ (l : ℕ) (os : List Object) (p : ℕ) (o : Object) (in_p : p < 2 ^ l) 
     pub new : (x : ℕ) → In x → (entry_at b' x ≡ F' x) ⊎ Off n x e
 
   pub data Climbs (n e : ℕ) (v : Entry) : Type 0 where
-    high : climbed n b e v ≡ refused 7 → max_bonus < (F' 1).legacy_bonus_score → Climbs n e v
+    high : climbed n b e v ≡ refused BONUS → max_bonus < (F' 1).legacy_bonus_score → Climbs n e v
     done : (b' : List ℕ) → climbed n b e v ≡ good b' → (F' 1).legacy_bonus_score ≤ max_bonus → After n e b' → Climbs n e v
 
   module _ (honest : (x : ℕ) → In x → entry_at b x ≡ F x) (room : 2 * 2 ^ l * entry_words ≤ length b) (ok : in_limits (F 1) ≡ true)
@@ -108,7 +108,7 @@ module _ (l : ℕ) (os : List Object) (p : ℕ) (o : Object) (in_p : p < 2 ^ l) 
     step n e v w i two is is-w q true h ih =
         let up : max_bonus < (F' (e / 2)).legacy_bonus_score = ltb-true max_bonus _ h in
         let here : In (e / 2) = (omega arith, omega arith) in
-        high (stops b e v w is-w (suc n) 7 (suc-ne-zero n) (q ∙ limited_high (F' (e / 2)) (light (e / 2) here) up)) (high_up (e / 2) here up)
+        high (one_level n b e v w _ is-w (q ∙ limited_high (F' (e / 2)) (light (e / 2) here) up) ∙ bind_refused _ _) (high_up (e / 2) here up)
     step n e v w i two is is-w q false h ih = join (ih low)
       where
         low : (F' (e / 2)).legacy_bonus_score ≤ max_bonus
@@ -117,15 +117,12 @@ module _ (l : ℕ) (os : List Object) (p : ℕ) (o : Object) (in_p : p < 2 ^ l) 
         passed : above_of e v w ≡ good (F' (e / 2))
         passed = q ∙ limited_low (F' (e / 2)) (light (e / 2) (omega arith, omega arith)) low
 
-        less : suc n - 1 ≡ n
-        less = omega arith
-
-        below : (x : Checked (List ℕ)) → climbed n b (e / 2) (F' (e / 2)) ≡ x → climbed (suc n - 1) b (e / 2) (F' (e / 2)) ≡ x
-        below x r = ap (λ (m : ℕ). climbed m b (e / 2) (F' (e / 2))) less ∙ r
+        up : climbed (suc n) b e v ≡ (climbed n b (e / 2) (F' (e / 2)) >>= (λ written. good (put_entry written e v)))
+        up = one_level n b e v w _ is-w passed ∙ bind_good _ _
 
         join : Climbs n (e / 2) (F' (e / 2)) → Climbs (suc n) e v
-        join (high r up) = high (stops_above b e v w is-w (F' (e / 2)) passed (suc n) 7 (suc-ne-zero n) (below (refused 7) r)) up
-        join (done b' r ends a) = done (put_entry b' e v) (goes_on b e v w is-w (F' (e / 2)) passed (suc n) b' (suc-ne-zero n) (below (good b') r)) ends (put_after n e v b' i is a)
+        join (high r most) = high (up ∙ rw (r, bind_refused)) most
+        join (done b' r ends a) = done (put_entry b' e v) (up ∙ rw (r, bind_good)) ends (put_after n e v b' i is a)
 
     pub climbs : (n e : ℕ) (v : Entry) → Top n e → In e → Near n e → v ≡ F' e → (F' e).legacy_bonus_score ≤ max_bonus → Climbs n e v
     climbs zero e v t i near is low =

@@ -10,14 +10,13 @@ use borrow.Author.Tests.{lt-leb, le-ltb}
 use lib.ListN.{length}
 use lib.Pow.{pow_pos, pow_mono, pow-add}
 use Rattle.rules.specs.Limits.{max_levels, max_bonus}
-use Rattle.rules.specs.Refusals.{good, ◌>>◌, refuse◌when◌}
+use Rattle.rules.specs.Refusals.{good, ◌>>◌, refuse◌when◌, BOARD}
 use Rattle.entries.specs.Entry.{none, joined, in_limits, SumOf, entry_words, place_words}
 use Rattle.entries.specs.Words.{entry_at}
 use Rattle.entries.specs.declared.entry.Entry.{Entry}
 use Rattle.entries.proofs.Limits.{word_le, first_most, sum_of-none, sum_of_more, sum_of-joined}
-use Rattle.tree.specs.Limited.{limited, after_of, sum_of, combined_of}
+use Rattle.tree.specs.Limited.{limited, after_of, sum_of}
 use Rattle.tree.specs.First.{walked}
-use Rattle.tree.specs.declared.combine.Combined.TheVariants as combined
 use Rattle.rules.proofs.Laws.{never}
 use Rattle.tree.proofs.Firsts.{skips, takes}
 use Rattle.tree.proofs.Light.{light_of}
@@ -50,11 +49,11 @@ after_good a w hw h =
     rw (hw, light_of (joined a w) h, le-ltb _ _ low)
 
 -- what the code was told of a sum
-sum_told : (a w u : Entry) → combined.Is u ≡ combined_of (sum_of a w) → (in_limits w ≡ true) × (u ≡ joined a w)
+sum_told : (a w u : Entry) → good u ≡ sum_of a w → (in_limits w ≡ true) × (u ≡ joined a w)
 unfolding sum_of ◌>>◌ refuse◌when◌
 sum_told a w u h = go (in_limits w) refl h
   where
-    go : (x : Bool) → in_limits w ≡ x → combined.Is u ≡ combined_of ((refuse 13 when not x) >> good (joined a w)) → (in_limits w ≡ true) × (u ≡ joined a w)
+    go : (x : Bool) → in_limits w ≡ x → good u ≡ ((refuse BOARD when not x) >> good (joined a w)) → (in_limits w ≡ true) × (u ≡ joined a w)
     go false e h = never (cc)
     go true e h = (e, cc)
 
@@ -178,15 +177,15 @@ module _ {b : List ℕ} {levels cap p done rest : ℕ} {sum : Entry} (k : Summin
     pub inside : p ≤ cap → cap * place_words ≤ length b → done / 2 ^ n * entry_words + entry_words ≤ length b
     inside = entry_inside n (rw is at le) (rw is at lt)
 
-    pub summing_next : levels ≤ max_levels → (u : Entry) → combined.Is u ≡ combined_of (sum_of sum (entry_at b (done / 2 ^ n))) → Summing b levels cap p (done + w) (rest - w) u
+    pub summing_next : levels ≤ max_levels → (u : Entry) → good u ≡ sum_of sum (entry_at b (done / 2 ^ n)) → Summing b levels cap p (done + w) (rest - w) u
     summing_next short u told =
         let h = sum_told sum (entry_at b (done / 2 ^ n)) u told in
         rw (is, h.1) (entry_taken n (rw is at le) (rw is at lt) short h.0)
 
-  pub summed : rest ≤ 0 → in_limits sum ≡ true → combined.Is sum ≡ combined_of (walked (levels + 1) b 1 p none)
+  pub summed : rest ≤ 0 → in_limits sum ≡ true → good sum ≡ walked (levels + 1) b 1 p none
   summed h fit =
       let z : rest ≡ 0 = omega (arith, h) in
-      sym (ap combined_of (sym (k.same fit) ∙ ap (λ (m : ℕ). walked k.level b k.x m sum) z ∙ none_left k.level b k.x sum))
+      sym (sym (k.same fit) ∙ ap (λ (m : ℕ). walked k.level b k.x m sum) z ∙ none_left k.level b k.x sum)
 
   pub sums_fit : levels ≤ max_levels → SumOf (max_levels + 1) sum
   sums_fit short = let f = k.few in sum_of_more k.taken 14 sum (omega (arith, f, short)) k.sums

@@ -1,3 +1,4 @@
+pub mod Single
 pub mod Levels
 pub mod Light
 pub mod Climbs

@@ -1,12 +1,12 @@
 -- A climb in two passes: where what is read and the last sum are within their limits, so was each sum before it, and what is written from the bottom up
 -- is what a climb leaves, since no store touches what is read or stored above it.
-use Prim.Native.Nat.{ℕ, zero, suc, ◌+◌, ◌-◌, ◌*◌, ◌/◌, ◌%◌, ◌^◌, ◌≤◌, ◌<◌}
+use Prim.Native.Nat.{ℕ, zero, suc, ◌+◌, ◌*◌, ◌/◌, ◌%◌, ◌^◌, ◌≤◌, ◌<◌}
 use mathlib.Core.Path.{◌≡◌, refl, sym, ap, ap₂, ◌∙◌, subst}
 use mathlib.Core.Logic.{◌≢◌}
 use mathlib.Core.Bool.{Bool, true, false, cond}
 use mathlib.Core.List.{List}
 use native.Mathlib.Omega.{arith}
-use native.Mathlib.Nat.{pow-suc, suc-ne-zero}
+use native.Mathlib.Nat.{pow-suc}
 use native.Mathlib.Decide.{ℕ_discrete}
 use borrow.Author.Tests.{eq-eqb, ne_eqb}
 use lib.Dec.{eqb, lit<}
@@ -14,13 +14,14 @@ use lib.ListN.{length}
 use lib.Pow.{pow_pos}
 use Rattle.rules.specs.Limits.{max_levels, max_objects}
 use Rattle.rules.specs.Refusals.{good}
+use Rattle.rules.proofs.Steps.{bind_good}
 use Rattle.entries.specs.Entry.{joined, in_limits, SumOf, place_words}
 use Rattle.entries.specs.Words.{entry_at, put_entry}
 use Rattle.entries.specs.declared.entry.Entry.{Entry}
 use Rattle.entries.proofs.Limits.{word_le, word_joined, first_most, sum_of_entry, sum_of_more, sum_of-joined, sum_of_led}
 use Rattle.entries.proofs.WordLaws.{put_same, put_other, put_past, put_length}
 use Rattle.tree.specs.Put.{beside_of, above_of, climbed, joined_at, top_of, ReadsIn, Clear, written_up}
-use Rattle.tree.proofs.Climbs.{above_is, limited-in_limits, goes_on}
+use Rattle.tree.proofs.Climbs.{above_is, limited-in_limits, one_level}
 use Rattle.tree.proofs.Within.{parts_in}
 
 -- ---- the way up
@@ -104,8 +105,7 @@ clear_good (suc n) b e v path first r top =
     let first-w : w.first_no_slider ≤ 1 = word_le w r.0 3 (lit< tt) in
     let ih = clear_good n b (e / 2) u (half_path n e path) (joined_first e v w first first-w) r.1 top in
     let q : above_of e v w ≡ good u = above_is e v w u r.0 refl ∙ limited-in_limits u ih.0 in
-    let z : suc n - 1 ≡ n = omega arith in
-    let on = goes_on b e v w refl u q (suc n) (written_up n b (e / 2) u) (suc-ne-zero n) (ap (λ (m : ℕ). climbed m b (e / 2) u) z ∙ ih.1) in
+    let on : climbed (suc n) b e v ≡ good (put_entry (written_up n b (e / 2) u) e v) = one_level n b e v w (good u) refl q ∙ rw (bind_good, ih.1, bind_good) in
     let up = written_put n b (e / 2) e u v (half_path n e path) (omega arith) in
     (joined-part e v w first first-w ih.0, on ∙ ap good (sym up))
 
@@ -173,9 +173,9 @@ pub climbing_start : (b : List ℕ) (levels e : ℕ) (v : Entry) → 2 ^ levels 
 climbing_start b levels e v path fit room = record { rising = rising_start levels e v path fit; room = room; reads = λ r. r; top = refl }
 
 module _ {b : List ℕ} {levels e : ℕ} {v : Entry} {left at : ℕ} {sum : Entry} (k : Climbing b levels e v left at sum) where
-  next_from : (n : ℕ) → left ≡ suc n → levels ≤ max_levels → (w : Entry) → w ≡ entry_at b (beside_of at) → in_limits w ≡ true → Climbing b levels e v n (at / 2) (joined_at at sum w)
+  pub climbing_next : (n : ℕ) → left ≡ suc n → levels ≤ max_levels → (w : Entry) → w ≡ entry_at b (beside_of at) → in_limits w ≡ true → Climbing b levels e v n (at / 2) (joined_at at sum w)
   unfolding ReadsIn top_of
-  next_from n is short w read fit =
+  climbing_next n is short w read fit =
       let from = subst (λ (m : ℕ). ReadsIn m b at → ReadsIn levels b e) is k.reads in
       let top = subst (λ (m : ℕ). top_of m b at sum ≡ top_of levels b e v) is k.top in
       record {
@@ -184,9 +184,6 @@ module _ {b : List ℕ} {levels e : ℕ} {v : Entry} {left at : ℕ} {sum : Entr
         reads = λ r. from (ap in_limits (sym read) ∙ fit, r);
         top = ap (λ (y : Entry). top_of n b (at / 2) (joined_at at sum y)) read ∙ top;
       }
-
-  pub climbing_next : 0 < left → levels ≤ max_levels → (w : Entry) → w ≡ entry_at b (beside_of at) → in_limits w ≡ true → Climbing b levels e v (left - 1) (at / 2) (joined_at at sum w)
-  climbing_next some = next_from (left - 1) (omega (arith, some))
 
   pub climbing_end : left ≤ 0 → levels ≤ max_levels → 2 ^ levels ≤ e → in_limits sum ≡ true → Clear levels b e v
   unfolding ReadsIn top_of
@@ -220,7 +217,7 @@ module _ {b₀ : List ℕ} {levels e : ℕ} {v : Entry} {b : List ℕ} {left at 
   sum_in = (clear_good left b at sum k.clear.path k.first k.clear.reads k.clear.top).0
 
   -- the two halves as they stand behind the store
-  module _ (some : 0 < left) (b' : List ℕ) (is : b' ≡ put_entry b at sum) (l r : Entry) (at-l : l ≡ entry_at b' (at / 2 * 2)) (at-r : r ≡ entry_at b' (at / 2 * 2 + 1)) where
+  module _ (n : ℕ) (suc-n : left ≡ suc n) (b' : List ℕ) (is : b' ≡ put_entry b at sum) (l r : Entry) (at-l : l ≡ entry_at b' (at / 2 * 2)) (at-r : r ≡ entry_at b' (at / 2 * 2 + 1)) where
     stands : (x : ℕ) → x ≡ at → entry_at b' x ≡ sum
     stands x e = ap₂ entry_at is e ∙ put_same b at sum (let room = k.room in omega (arith, room))
 
@@ -237,20 +234,20 @@ module _ {b₀ : List ℕ} {levels e : ℕ} {v : Entry} {b : List ℕ} {left at 
         let other : at / 2 * 2 + 1 ≡ beside_of at = simp (eq-eqb _ _ d) (omega (arith, here)) in
         let is-l = at-l ∙ stands (at / 2 * 2) here in
         let is-r = at-r ∙ beside (at / 2 * 2 + 1) other in
-        (ap in_limits is-l ∙ sum_in, ap in_limits is-r ∙ read_in_from (left - 1) (omega (arith, some)), ap₂ joined is-l is-r ∙ even_side at sum read d)
+        (ap in_limits is-l ∙ sum_in, ap in_limits is-r ∙ read_in_from n suc-n, ap₂ joined is-l is-r ∙ even_side at sum read d)
     halves_in (no d) =
         let here : at / 2 * 2 + 1 ≡ at = omega (arith, d) in
         let other : at / 2 * 2 ≡ beside_of at = simp (ne_eqb _ _ d) (omega (arith, here)) in
         let is-l = at-l ∙ beside (at / 2 * 2) other in
         let is-r = at-r ∙ stands (at / 2 * 2 + 1) here in
-        (ap in_limits is-l ∙ read_in_from (left - 1) (omega (arith, some)), ap in_limits is-r ∙ sum_in, ap₂ joined is-l is-r ∙ odd_side at sum read d)
+        (ap in_limits is-l ∙ read_in_from n suc-n, ap in_limits is-r ∙ sum_in, ap₂ joined is-l is-r ∙ odd_side at sum read d)
 
     pub halves : Halves
     halves = halves_in (ℕ_discrete (at % 2) 0)
 
-    writes_from : (n : ℕ) → left ≡ suc n → Writing b₀ levels e v (put_entry b at sum) n (at / 2) (joined_at at sum read)
+    writes_from : Writing b₀ levels e v (put_entry b at sum) n (at / 2) (joined_at at sum read)
     unfolding ReadsIn top_of written_up
-    writes_from n suc-n =
+    writes_from =
         let c = k.clear in
         let path = half_path n at (subst (λ (m : ℕ). 2 ^ m ≤ at) suc-n c.path) in
         let reads = subst (λ (m : ℕ). ReadsIn m b at) suc-n c.reads in
@@ -272,10 +269,10 @@ module _ {b₀ : List ℕ} {levels e : ℕ} {v : Entry} {b : List ℕ} {left at 
           written = done;
         }
 
-    pub writing_next : (u : Entry) → u ≡ joined l r → Writing b₀ levels e v b' (left - 1) (at / 2) u
+    pub writing_next : (u : Entry) → u ≡ joined l r → Writing b₀ levels e v b' n (at / 2) u
     writing_next u is-u =
-        subst (λ (x : Entry). Writing b₀ levels e v b' (left - 1) (at / 2) x) (sym (is-u ∙ halves.2))
-        (subst (λ (m : List ℕ). Writing b₀ levels e v m (left - 1) (at / 2) (joined_at at sum read)) (sym is) (writes_from (left - 1) (omega (arith, some))))
+        subst (λ (x : Entry). Writing b₀ levels e v b' n (at / 2) x) (sym (is-u ∙ halves.2))
+        (subst (λ (m : List ℕ). Writing b₀ levels e v m n (at / 2) (joined_at at sum read)) (sym is) writes_from)
 
   pub writing_end : left ≤ 0 → put_entry b at sum ≡ written_up levels b₀ e v
   unfolding written_up

@@ -5,8 +5,6 @@ use Rattle.entries.specs.Words.{entry_at}
 use Rattle.entries.specs.declared.entry.Entry.{Entry}
 use Rattle.tree.specs.Limited.{after_of}
 use Rattle.tree.specs.declared.first.Prefix.{Prefix}
-use Rattle.tree.specs.declared.first.Turned.{Turned}
-use Rattle.tree.specs.declared.first.Turned.TheVariants as turned
 
 -- a, and then the entries that cover the first p places from entry x of level n - 1 on, the largest first
 unfoldable pub walked : ℕ → List ℕ → ℕ → ℕ → Entry → Checked Entry
@@ -14,11 +12,11 @@ walked zero b x p a = good a
 walked (suc n) b x p a = cond (leb (2 ^ n) p) (after_of a (entry_at b x) >>= (λ u. walked n b ((x + 1) * 2) (p - 2 ^ n) u)) (walked n b (x * 2) p a)
 
 -- ---- one level, as the code takes it
-abbrev pub taken : Prefix → Checked Entry → Turned
-taken t (refused n) = turned.Refused n
-taken t (good u) = turned.Next (record { left = t.left - 1; x = (t.x + 1) * 2; width = t.width / 2; rest = t.rest - t.width; sum = u })
+abbrev pub taken : Prefix → Checked Entry → Checked Prefix
+taken t (refused n) = refused n
+taken t (good u) = good (record { x = (t.x + 1) * 2; width = t.width / 2; rest = t.rest - t.width; sum = u })
 
-abbrev pub turned_of : List ℕ → Prefix → Turned
+abbrev pub turned_of : List ℕ → Prefix → Checked Prefix
 turned_of b t = cond (ltb t.rest t.width)
-    (turned.Next (record { left = t.left - 1; x = t.x * 2; width = t.width / 2; rest = t.rest; sum = t.sum }))
+    (good (record { x = t.x * 2; width = t.width / 2; rest = t.rest; sum = t.sum }))
     (taken t (after_of t.sum (entry_at b t.x)))

@@ -2,11 +2,9 @@
 -- (13), then the combined legacy bonus ("a legacy sum above it is 7").
 use Rattle.std.specs.Prelude.{not, ltb}
 use Rattle.rules.specs.Limits.{max_bonus}
-use Rattle.rules.specs.Refusals.{Checked, good, refused, ◌>>◌, refuse◌when◌, BONUS, BOARD}
+use Rattle.rules.specs.Refusals.{Checked, good, ◌>>◌, refuse◌when◌, BONUS, BOARD}
 use Rattle.entries.specs.Entry.{joined, in_limits}
 use Rattle.entries.specs.declared.entry.Entry.{Entry}
-use Rattle.tree.specs.declared.combine.Combined.{Combined}
-use Rattle.tree.specs.declared.combine.Combined.TheVariants as combined
 
 abbrev pub without_legacy : Entry → Entry
 without_legacy e = record {
@@ -42,7 +40,3 @@ unfoldable pub sum_of : Entry → Entry → Checked Entry
 sum_of a read = do
   refuse BOARD when not (in_limits read)
   good (joined a read)
-
-abbrev pub combined_of : Checked Entry → Combined
-combined_of (refused n) = combined.Refused n
-combined_of (good e) = combined.Is e

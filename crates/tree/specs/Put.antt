@@ -6,8 +6,6 @@ use Rattle.entries.specs.Entry.{joined, in_limits}
 use Rattle.entries.specs.Words.{entry_at, put_entry}
 use Rattle.entries.specs.declared.entry.Entry.{Entry}
 use Rattle.tree.specs.Limited.{limited}
-use Rattle.tree.specs.declared.put.Put.{Put}
-use Rattle.tree.specs.declared.put.Put.TheVariants as put
 
 -- the other half of the entry above e
 abbrev pub beside_of : ℕ → ℕ
@@ -27,9 +25,9 @@ climbed (suc n) b e v = do
   written ← climbed n b (e / 2) u
   good (put_entry written e v)
 
-abbrev pub put_of : Checked (List ℕ) → Put
-put_of (refused n) = put.Refused n
-put_of (good b) = put.Done
+abbrev pub put_of : Checked (List ℕ) → Checked (Unit {0})
+put_of (refused n) = refused n
+put_of (good b) = good tt
 
 abbrev pub or_else : Checked (List ℕ) → List ℕ → List ℕ
 or_else (refused n) b = b

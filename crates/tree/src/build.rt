@@ -7,14 +7,13 @@ use entries::entry::Entry;
 use entries::words::{load, store};
 
 // n zero entries from e on.
+#[tactic(auto, using(crate::proofs::Builds::clearing))]
 fn clear(b: &mut [u64], e: usize, n: usize)
     requires { (e + n) * entry_words ≤ length b.old }
     ensures { b.new ≡ cleared e n b.old }
 {
-    let mut i = 0;
-    while i < n {
+    for i in 0..n {
         store(b, e + i, Entry::new());
-        i += 1;
     }
 }
 
@@ -23,12 +22,10 @@ fn raise(b: &mut [u64], n: usize)
     requires { (n * place_words + place_words ≤ length b.old) × Raises n b.old }
     ensures { b.new ≡ raised n b.old }
 {
-    let mut e = n;
-    while 0 < e {
+    for e in (1..n + 1).rev() {
         let left = load(b, e * 2);
         let right = load(b, e * 2 + 1);
         store(b, e, left.join(right));
-        e -= 1;
     }
 }
 

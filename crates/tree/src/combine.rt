@@ -1,17 +1,10 @@
 // Two entries combined, with the checks of what is read and of what they give.
 ghost use Rattle.std.specs.Prelude.{◌≡◌, true};
 ghost use Rattle.entries.specs.Entry.{in_limits};
-ghost use Rattle.tree.specs.Limited.{without_legacy, limited, after_of, combined_of};
+ghost use Rattle.tree.specs.Limited.{without_legacy, limited, after_of};
 
 use entries::entry::Entry;
-use rules::refusal;
-
-// An entry combined with one as read, or the number of what is out of its limits.
-#[derive(Clone, Copy)]
-pub enum Combined {
-    Is(Entry),
-    Refused(u8),
-}
+use rules::refusal::Rule;
 
 fn without_legacy(e: Entry) -> Entry
     ensures { result ≡ without_legacy e }
@@ -23,25 +16,27 @@ fn without_legacy(e: Entry) -> Entry
 }
 
 // The combined words but the legacy bonus, then that.
-pub fn limit(e: Entry) -> Combined
-    ensures { result ≡ combined_of (limited e) }
+#[tactic(auto, using(rules::proofs::Steps::steps), unfolding(crate::specs::Limited::limited))]
+pub fn limit(e: Entry) -> Result<Entry, Rule>
+    ensures { result ≡ limited e }
 {
     if !without_legacy(e).within() {
-        return Combined::Refused(refusal::BOARD);
+        return Err(Rule::Board);
     }
     if Entry::MAX_SCORE < e.legacy_bonus_score {
-        return Combined::Refused(refusal::BONUS);
+        return Err(Rule::Bonus);
     }
-    Combined::Is(e)
+    Ok(e)
 }
 
 // The objects of a, then those of an entry as read.
-pub fn after(a: Entry, read: Entry) -> Combined
+#[tactic(auto, using(crate::proofs::Single::singles), unfolding(crate::specs::Limited::after_of))]
+pub fn after(a: Entry, read: Entry) -> Result<Entry, Rule>
     requires { in_limits a ≡ true }
-    ensures { result ≡ combined_of (after_of a read) }
+    ensures { result ≡ after_of a read }
 {
     if !read.within() {
-        return Combined::Refused(refusal::BOARD);
+        return Err(Rule::Board);
     }
     limit(a.join(read))
 }

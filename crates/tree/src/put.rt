@@ -2,22 +2,15 @@
 ghost use Rattle.std.specs.Prelude.{◌≡◌, true, ◌+◌, ◌*◌, ◌/◌, ◌≤◌, length};
 ghost use Rattle.rules.specs.Limits.{max_levels, max_objects};
 ghost use Rattle.entries.specs.Entry.{in_limits, SumOf, place_words};
-ghost use Rattle.tree.specs.Limited.{combined_of};
 ghost use Rattle.tree.specs.Put.{beside_of, above_of, climbed, put_of, or_else, joined_at, Clear, written_up};
 
-use crate::combine::{Combined, limit};
+use crate::combine::limit;
 use entries::entry::Entry;
 use entries::words::{load, store};
-use rules::refusal;
+use rules::refusal::Rule;
 
 // The levels of a board of the most objects.
 const MAX_LEVELS: usize = 13;
-
-#[derive(Clone, Copy)]
-pub enum Put {
-    Done,
-    Refused(u8),
-}
 
 // The other half of the entry above e: e with its last digit turned.
 fn beside(e: usize) -> usize
@@ -27,12 +20,13 @@ fn beside(e: usize) -> usize
 }
 
 // The entry above e, from v at e and what was read beside it.
-fn above(e: usize, v: Entry, read: Entry) -> Combined
+#[tactic(auto, using(crate::proofs::Single::singles), unfolding(crate::specs::Put::above_of))]
+fn above(e: usize, v: Entry, read: Entry) -> Result<Entry, Rule>
     requires { in_limits v ≡ true }
-    ensures { result ≡ combined_of (above_of e v read) }
+    ensures { result ≡ above_of e v read }
 {
     if !read.within() {
-        return Combined::Refused(refusal::BOARD);
+        return Err(Rule::Board);
     }
     if e % 2 == 0 {
         return limit(v.join(read));
@@ -41,25 +35,20 @@ fn above(e: usize, v: Entry, read: Entry) -> Combined
 }
 
 // Reads the other half of each entry above e, from the bottom up, and writes only behind the last check.
-pub fn climb(b: &mut [u64], levels: usize, e: usize, v: Entry) -> Put
+#[tactic(auto, using(crate::proofs::Climbs::climbing))]
+pub fn climb(b: &mut [u64], levels: usize, e: usize, v: Entry) -> Result<(), Rule>
     requires { (e / 2 * place_words + place_words ≤ length b.old) × (in_limits v ≡ true) }
     ensures value { result ≡ put_of (climbed levels b.old e v) }
     ensures b_after { b.new ≡ or_else (climbed levels b.old e v) b.old }
 {
     if levels == 0 {
         store(b, e, v);
-        return Put::Done;
+        return Ok(());
     }
-    match above(e, v, load(b, beside(e))) {
-        Combined::Refused(number) => Put::Refused(number),
-        Combined::Is(u) => match climb(b, levels - 1, e / 2, u) {
-            Put::Refused(number) => Put::Refused(number),
-            Put::Done => {
-                store(b, e, v);
-                Put::Done
-            }
-        },
-    }
+    let joined = above(e, v, load(b, beside(e)))?;
+    climb(b, levels - 1, e / 2, joined)?;
+    store(b, e, v);
+    Ok(())
 }
 
 // The entry above e, unchecked.
@@ -82,17 +71,15 @@ fn is_clear(b: &[u64], levels: usize, e: usize, v: Entry) -> bool
     if e < 1usize << levels {
         return false;
     }
-    let mut left = levels;
     let mut at = e;
     let mut sum = v;
-    while 0 < left {
+    for _ in 0..levels {
         let read = load(b, beside(at));
         if !read.within() {
             return false;
         }
         sum = joined_at(at, sum, read);
-        at = at / 2;
-        left -= 1;
+        at /= 2;
     }
     sum.within()
 }
@@ -102,27 +89,25 @@ fn write_up(b: &mut [u64], levels: usize, e: usize, v: Entry)
     requires { (e / 2 * place_words + place_words ≤ length b.old) × (in_limits v ≡ true) × Clear levels b.old e v }
     ensures { b.new ≡ written_up levels b.old e v }
 {
-    let mut left = levels;
     let mut at = e;
     let mut sum = v;
-    while 0 < left {
+    for _ in 0..levels {
         store(b, at, sum);
-        at = at / 2;
+        at /= 2;
         sum = load(b, at * 2).join(load(b, at * 2 + 1));
-        left -= 1;
     }
     store(b, at, sum);
 }
 
 // As `climb`, which says what is wrong where a word is not within its limits: one pass reads and checks, a second writes.
-pub fn quick_climb(b: &mut [u64], levels: usize, e: usize, v: Entry) -> Put
+pub fn quick_climb(b: &mut [u64], levels: usize, e: usize, v: Entry) -> Result<(), Rule>
     requires { (e / 2 * place_words + place_words ≤ length b.old) × (in_limits v ≡ true) }
     ensures value { result ≡ put_of (climbed levels b.old e v) }
     ensures b_after { b.new ≡ or_else (climbed levels b.old e v) b.old }
 {
     if is_clear(b, levels, e, v) {
         write_up(b, levels, e, v);
-        return Put::Done;
+        return Ok(());
     }
     climb(b, levels, e, v)
 }

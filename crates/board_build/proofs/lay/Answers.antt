@@ -1,5 +1,4 @@
 use native.Mathlib.Omega.{arith}
-use borrow.Author.Rules.{rules}
 use Rattle.map_file.proofs.Steps.{rest_is}
 use Rattle.map_reader.proofs.Attributed.{complete}
 use Rattle.board_build.proofs.LayingRight.{laying_start, same_words, same_numbers, laying_inside, laying_room, laying_ahead, laying_object, laying_end}
@@ -25,12 +24,6 @@ pub overflow_add-at : goal.overflow_add-at
 overflow_add-at c =
     let i = laying_ahead c.loop-place.invariant c.loop-place-test.true (rest_is c.args.file.now c.loop-place.at) c.word_at.ensures.0 c.lay_object-at.ensures in
     omega (arith, i)
-
-pub overflow_add-place : goal.overflow_add-place
-overflow_add-place c = search rules
-
-pub loop-place-smaller : goal.loop-place-smaller
-loop-place-smaller c = let h = c.loop-place-test.true in omega (arith, h)
 
 pub loop-place-preserved : goal.loop-place-preserved
 loop-place-preserved c =

@@ -6,6 +6,3 @@ use Rattle.exponential.proofs.series.Given as goal
 
 abbrev pub invariant-loop-j : goal.invariant-loop-j
 invariant-loop-j l = series_of l.y l.j l.h ≡ series_of l.y 8 (whole 1)
-
-abbrev pub decreases-loop-j : goal.decreases-loop-j
-decreases-loop-j l = l.j

@@ -1,5 +1,5 @@
 -- What was read is all that the space takes of the reader's bytes, and the text that was written is the listing of it.
-use Rattle.std.proofs.Common.{List, ℕ, subst, rules, arith}
+use Rattle.std.proofs.Common.{List, ℕ, subst, arith}
 use Rattle.std.specs.Io.KnownBytes.{Appends}
 use Rattle.listing.specs.Listing.{input_text}
 use Rattle.list.proofs.Fronts.{front_told}

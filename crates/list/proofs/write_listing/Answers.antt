@@ -5,10 +5,10 @@ use Rattle.list.proofs.Listings.{no_room, front_listed}
 use Rattle.list.proofs.write_listing.Goals as goal
 
 pub unreachable-requires : goal.unreachable-requires
-unreachable-requires g c = no_room c.args.input.now _ _ c.in-NoRoom.ensures.space_after (search rules) c.in-NoRoom.ensures.value
+unreachable-requires g c = no_room c.args.input.now _ _ c.in-None.ensures.space_after (search rules) c.in-None.ensures.value
 
 pub returns : goal.returns
 returns g c =
-    let text = front_listed c.args.input.now _ _ c.in-Text.ensures.space_after (search rules) c.in-Text.count c.in-Text.ensures.value in
-    let written = rw c.in_ok-context-in-Text.ensures at c.write_all.ensures.bytes in
+    let text = front_listed c.args.input.now _ _ c.in-Some.ensures.space_after (search rules) c.in-Some.count c.in-Some.ensures.value in
+    let written = rw c.in_ok-context-in-Some.ensures at c.write_all.ensures.bytes in
     subst (λ (t : List ℕ). Appends (g.W.Write.contents c.args.writer.now) (g.W.Write.contents c.write_all.new.self) t) text written

@@ -1,10 +1,11 @@
-use Prim.Native.Nat.{◌<◌}
+-- Each play is the definition's next, and its line stands behind those before it.
+use mathlib.Core.Path.{◌≡◌, subst}
+use Prim.Native.Nat.{ℕ, ◌+◌, ◌*◌, ◌≤◌, ◌<◌}
 use native.Mathlib.Omega.{arith}
 use lib.ListN.{length}
 use Rattle.rules.proofs.Laws.{so}
-use Rattle.play_reader.proofs.Playing.{read_inside}
 use Rattle.marks.proofs.Marked.{mark_there}
-use Rattle.listing.proofs.Writing.{writing_start, from_mark, writing_cut, writing_line, writing_done, writing_length}
+use Rattle.listing.proofs.Writing.{Writing, writing_start, end_inside, from_mark, writing_cut, writing_line, writing_done}
 use Rattle.listing.proofs.put_plays.Goals as goal
 
 pub returns-then-map-s : goal.returns-then-map-s
@@ -12,48 +13,33 @@ returns-then-map-s c =
     let e = c.if-map-s.true in
     let r = writing_done (writing_start c.requires.good_file c.args.space.now c.args.from c.requires.from_in_bounds) (omega (arith, e)) in record { value = r.0; space_after = r.1 }
 
-pub marks_of-marks-requires : goal.marks_of-marks-requires
-marks_of-marks-requires c = record { p = c.requires.good_file.p; is = c.requires.good_file.map }
+pub overflow_sub-s : goal.overflow_sub-s
+overflow_sub-s c = end_inside c.requires.good_file
 
-pub loop-at-init : goal.loop-at-init
-loop-at-init c = writing_start c.requires.good_file c.args.space.now c.args.from c.requires.from_in_bounds
-
-pub shape_of-space-in_default : goal.shape_of-space-in_default
-shape_of-space-in_default c = writing_length c.loop-at.invariant
+pub loop-index-init : goal.loop-index-init
+loop-index-init c =
+    let here : c.args.map.end ≡ c.args.map.end + 0 = omega arith in
+    subst (λ (at : ℕ). Writing c.args.s.now c.args.map c.args.space.now c.args.from at 0 c.args.space.now c.args.from) here
+    (writing_start c.requires.good_file c.args.space.now c.args.from c.requires.from_in_bounds)
 
 pub returns-in_default : goal.returns-in_default
 returns-in_default c =
-    writing_cut c.loop-at.invariant c.loop-at-test.true c.requires.good_file _ (so c.in_default.is c.play_at.ensures)
+    let inside : c.args.map.end + c.loop-index.index * 44 < length c.args.s.now = omega arith in
+    writing_cut c.loop-index.invariant inside c.requires.good_file _ (so c.in_default.is c.play_at.ensures)
 
 pub attributes_from-a-requires : goal.attributes_from-a-requires
 attributes_from-a-requires c =
-    (record { p = c.requires.good_file.p; is = c.requires.good_file.map }, mark_there c.marks_of-marks.ensures c.in-Is.play _ _ c.mark_before-i.ensures.0)
+    (record { p = c.requires.good_file.p; is = c.requires.good_file.map }, mark_there c.marks_of-marks.ensures c.in-Ok.play _ _ c.mark_before-i.ensures.0)
 
-pub overflow_add-index : goal.overflow_add-index
-overflow_add-index c =
-    let few = c.loop-at.invariant.few in
-    let h = c.loop-at-test.true in
-    let room : length c.args.s.now < 18446744073709551616 = c.well_formed.0.0 in
-    omega (arith, few, h, room)
-
-pub overflow_add-at : goal.overflow_add-at
-overflow_add-at c =
-    let inside = read_inside c.loop-at.invariant.playing.to c.loop-at-test.true _ (so c.in-Is.is c.play_at.ensures) in
-    let room : length c.args.s.now < 18446744073709551616 = c.well_formed.0.0 in
-    omega (arith, inside, room)
-
-pub loop-at-smaller : goal.loop-at-smaller
-loop-at-smaller c =
-    let h = c.loop-at-test.true in
-    omega (arith, h)
-
-pub loop-at-preserved : goal.loop-at-preserved
-loop-at-preserved c =
-    let estimates = from_mark c.loop-at.invariant c.marks_of-marks.ensures c.in-Is.play _ _ c.mark_before-i.ensures.0 _ c.attributes_from-a.ensures _ c.calculate.ensures in
-    writing_line c.loop-at.invariant c.loop-at-test.true _ (so c.in-Is.is c.play_at.ensures) c.requires.good_file _ estimates _ _ (c.put_play_line-to.ensures.value, c.put_play_line-to.ensures.space_after)
-
-pub shape_of-space : goal.shape_of-space
-shape_of-space c = writing_length c.loop-at.invariant
+pub loop-index-preserved : goal.loop-index-preserved
+loop-index-preserved c =
+    let inside : c.args.map.end + c.loop-index.index * 44 < length c.args.s.now = omega arith in
+    let next : c.args.map.end + c.loop-index.index * 44 + 44 ≡ c.args.map.end + (c.loop-index.index + 1) * 44 = omega arith in
+    let estimates = from_mark c.loop-index.invariant c.marks_of-marks.ensures c.in-Ok.play _ _ c.mark_before-i.ensures.0 _ c.attributes_from-a.ensures _ c.calculate-estimates.ensures in
+    subst (λ (at : ℕ). Writing c.args.s.now c.args.map c.args.space.now c.args.from at (c.loop-index.index + 1) c.put_play_line-to.new.space c.put_play_line-to.result) next
+    (writing_line c.loop-index.invariant inside _ (so c.in-Ok.is c.play_at.ensures) c.requires.good_file _ estimates _ _ (c.put_play_line-to.ensures.value, c.put_play_line-to.ensures.space_after))
 
 pub returns : goal.returns
-returns c = let r = writing_done c.loop-at.invariant c.loop-at-test.false in record { value = r.0; space_after = r.1 }
+returns c =
+    let all : length c.args.s.now ≤ c.args.map.end + c.loop-index.index * 44 = omega arith in
+    let r = writing_done c.loop-index.invariant all in record { value = r.0; space_after = r.1 }

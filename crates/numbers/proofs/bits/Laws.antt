@@ -1,17 +1,13 @@
 -- A NaN's bit pattern by a mask and a comparison, and a float that is written as bits and read back. Over the format. Assumes nothing.
-use Rattle.std.proofs.Common.{◌≡◌, ℕ, ◌-◌, ◌*◌, ◌%◌, ◌^◌, ◌<◌, ◌≤◌, Bool, not, T, ltb, sym, ap, ◌∙◌, subst, le-ltb, lt-ltb}
+use Rattle.std.proofs.Common.{◌≡◌, ℕ, ◌-◌, ◌*◌, ◌%◌, ◌^◌, ◌<◌, ◌≤◌, Bool, not, T, ltb, sym, ap, ◌∙◌, subst, le-ltb}
 use lib.Bits.{bit_and, and_mask}
-use lib.Ieee.{Float, nan, Format, ones, hid, top, nan_bits, of_bits, to_bits, fits}
-use lib.Ieee.Bits.{nan_bits_above, nan_bits_is, of_bits-to_bits, to_bits-of_bits, to_bits-lt}
-use Rattle.numbers.proofs.Nan.{nan_of_is_nan}
+use lib.Ieee.{Float, Format, ones, hid, top, nan_bits, of_bits, to_bits, fits}
+use lib.Ieee.Bits.{nan_bits_above, of_bits-to_bits, to_bits-lt}
 
 -- the sign has the weight 2 ^ k, so the mask 2 ^ k - 1 clears it
 module _ (f : Format) (k : ℕ) (sign : top f ≡ 2 ^ k) (n : ℕ) where
   pub nan_test : nan_bits f n ≡ ltb (ones f * hid f) (bit_and n (2 ^ k - 1))
   nan_test = nan_bits_above f n ∙ ap (λ (t : ℕ). ltb (ones f * hid f) (n % t)) sign ∙ ap (λ (m : ℕ). ltb (ones f * hid f) m) (sym (and_mask n k))
-
-  pub nan_pattern : ones f * hid f < bit_and n (2 ^ k - 1) → nan ≡ of_bits f n
-  nan_pattern h = sym (nan_of_is_nan (of_bits f n) (sym (nan_bits_is f n) ∙ nan_test ∙ lt-ltb (ones f * hid f) (bit_and n (2 ^ k - 1)) h))
 
   pub number_pattern : bit_and n (2 ^ k - 1) ≤ ones f * hid f → T (not (nan_bits f n))
   number_pattern h = subst (λ (b : Bool). T (not b)) (sym (nan_test ∙ le-ltb (ones f * hid f) (bit_and n (2 ^ k - 1)) h)) tt
@@ -22,7 +18,3 @@ written_read = of_bits-to_bits
 
 pub written_lt : (f : Format) (x : Float) → T (fits f x) → to_bits f x < 2 * top f
 written_lt = to_bits-lt
-
--- Read and written again: every pattern that is not a NaN's comes back.
-pub read_written : (f : Format) (n : ℕ) → n < 2 * top f → T (not (nan_bits f n)) → to_bits f (of_bits f n) ≡ n
-read_written f n h k = to_bits-of_bits f n h (subst (λ (b : Bool). T (not b)) (nan_bits_is f n) k)

@@ -1,5 +1,5 @@
 -- A little-endian number read from a list: by parts, in a longer list, and as the bytes that were written. Assumes nothing.
-use Rattle.std.proofs.Common.{◌≡◌, ℕ, zero, suc, ◌+◌, ◌-◌, ◌*◌, ◌/◌, ◌%◌, ◌^◌, ◌<◌, ◌≤◌, T, List, [], ◌∷◌, ◌++◌, length, get_or, take, drop, sym, refl, ap, ◌∙◌, subst, add-zero, mod-eq_of_lt, zero-lt-suc, suc-add, pow-suc, zero-add, add-one, arith, get_or-drop, drop-cons, get_or-append-add}
+use Rattle.std.proofs.Common.{◌≡◌, ℕ, zero, suc, ◌+◌, ◌-◌, ◌*◌, ◌/◌, ◌%◌, ◌^◌, ◌<◌, ◌≤◌, T, List, [], ◌∷◌, ◌++◌, length, get_or, take, drop, sym, refl, ap, ◌∙◌, subst, add-zero, zero-lt-suc, suc-add, pow-suc, zero-add, add-one, arith, get_or-drop, drop-cons, get_or-append-add}
 use lib.Arith.{digits_div, digits_mod}
 use lib.ListN.{get_or-eq_default, get_or-append}
 use lib.Ieee.{Float, Format, top, fits, of_bits, to_bits}
@@ -63,10 +63,6 @@ pub word_at-drop : (s : List ℕ) (k at n : ℕ) → word_at (drop k s) at n ≡
 word_at-drop s k at n =
     word_at_same (drop k s) s at (k + at) n (λ (i : ℕ) (l : i < n). get_or-drop k s (at + i) 0 ∙ ap (λ (j : ℕ). get_or s j 0) (omega arith))
 
-pub word_at-one : (s : List ℕ) (at : ℕ) → word_at s at 1 ≡ get_or s at 0
-unfolding word_at
-word_at-one s at = omega arith
-
 -- ---- the bytes of a number
 
 pub bytes_of-length : (n v : ℕ) → length (bytes_of n v) ≡ n
@@ -79,10 +75,6 @@ unfolding bytes_of
 bytes_of_byte zero v i = omega arith
 bytes_of_byte (suc n) v zero = omega arith
 bytes_of_byte (suc n) v (suc i) = bytes_of_byte n (v / 256) i
-
-pub bytes_of-one : (v : ℕ) → v < 256 → bytes_of 1 v ≡ v ∷ []
-unfolding bytes_of
-bytes_of-one v h = ap (λ (b : ℕ). b ∷ []) (mod-eq_of_lt h)
 
 -- a number that n bytes hold comes back
 pub word_at_bytes : (n v : ℕ) (rest : List ℕ) → v < 256 ^ n → word_at (bytes_of n v ++ rest) 0 n ≡ v
@@ -97,13 +89,7 @@ word_at_bytes (suc n) v rest h =
     whole : (v : ℕ) → v % 256 + 256 * (v / 256) ≡ v
     whole v = omega arith
 
--- a field after the bytes of earlier ones, and a field that is passed over
-pub word_at_field : (pre : List ℕ) (n v : ℕ) (rest : List ℕ) → v < 256 ^ n → word_at (pre ++ (bytes_of n v ++ rest)) (length pre) n ≡ v
-word_at_field pre n v rest h =
-    ap (λ (j : ℕ). word_at (pre ++ (bytes_of n v ++ rest)) j n) (sym (add-zero (length pre)))
-    ∙ word_at-append pre (bytes_of n v ++ rest) 0 n
-    ∙ word_at_bytes n v rest h
-
+-- a field that is passed over
 pub word_at_skip : (m v : ℕ) (rest : List ℕ) (k n : ℕ) → word_at (bytes_of m v ++ rest) (m + k) n ≡ word_at rest k n
 word_at_skip m v rest k n =
     ap (λ (j : ℕ). word_at (bytes_of m v ++ rest) (j + k) n) (sym (bytes_of-length m v)) ∙ word_at-append (bytes_of m v) rest k n

@@ -1,33 +1,43 @@
--- One step of the loop of `whole_word`, which reads from the highest byte down, with i bytes to go: the number, and its bound. Assumes nothing.
-use Rattle.std.proofs.Common.{◌≡◌, ℕ, suc, ◌+◌, ◌-◌, ◌*◌, ◌^◌, ◌<◌, ◌≤◌, List, get_or, sym, ap, ◌∙◌, subst, zero-lt-suc, pow-suc, arith}
+-- One step of the loop of `whole_word`, and the number of a part of the bytes. Assumes nothing.
+use Rattle.std.proofs.Common.{◌≡◌, ℕ, suc, ◌+◌, ◌-◌, ◌*◌, ◌^◌, ◌<◌, ◌≤◌, List, length, get_or, take, drop, sym, ap, ◌∙◌, subst, lt_of_lt_of_le, arith, zero-add, get_or-drop, w8, Fits}
 use native.Mathlib.Nat.{pow-le-pow_right}
+use Rattle.std.proofs.lemmas.List.{get_or-take, take-take, length-take-le, length-drop}
 use Rattle.numbers.specs.Words.{word_at}
+use Rattle.numbers.proofs.words.Laws.{word_at_same, word_at_lt}
 
-less_one : (n i : ℕ) → 0 < i → i ≤ n → n - (i - 1) ≡ suc (n - i)
-less_one n i h k = omega arith
-
-pub word_at_step : (s : List ℕ) (a n i : ℕ) → 0 < i → i ≤ n
-    → word_at s (a + i) (n - i) * 256 + get_or s (a + (i - 1)) 0 ≡ word_at s (a + (i - 1)) (n - (i - 1))
+-- one byte below the ones that were read
+pub one_below : (s : List ℕ) (i n : ℕ) → 0 < i → i ≤ n → word_at s i (n - i) * 256 + get_or s (i - 1) 0 ≡ word_at s (i - 1) (n - (i - 1))
 unfolding word_at
-word_at_step s a n i h k =
-    sym
-    (ap (λ (m : ℕ). word_at s (a + (i - 1)) m) (less_one n i h k)
-    ∙ ap (λ (j : ℕ). get_or s (a + (i - 1)) 0 + 256 * word_at s j (n - i)) (next a i h)
-    ∙ turned (get_or s (a + (i - 1)) 0) (word_at s (a + i) (n - i)))
-  where
-    next : (a i : ℕ) → 0 < i → a + (i - 1) + 1 ≡ a + i
-    next a i h = omega arith
+one_below s i n h k =
+    let longer : n - (i - 1) ≡ suc (n - i) = omega arith in
+    let next : i - 1 + 1 ≡ i = omega arith in
+    rw (longer, next) (omega arith)
 
-    turned : (b w : ℕ) → b + 256 * w ≡ w * 256 + b
-    turned b w = omega arith
+bytes_mono : (i j : ℕ) → i ≤ j → 256 ^ i ≤ 256 ^ j
+bytes_mono i j h = pow-le-pow_right (omega arith) h
 
-pub bound_step : (v b n i : ℕ) → 0 < i → i ≤ n → v < 256 ^ (n - i) → b < 256 → v * 256 + b < 256 ^ (n - (i - 1))
-bound_step v b n i h k l m =
-    subst (λ (e : ℕ). v * 256 + b < 256 ^ e) (sym (less_one n i h k))
-    (subst (λ (p : ℕ). v * 256 + b < p) (sym (pow-suc 256 (n - i))) (wider (256 ^ (n - i)) v b l m))
-  where
-    wider : (p v b : ℕ) → v < p → b < 256 → v * 256 + b < p * 256
-    wider p v b h k = omega arith
+-- eight bytes fill a word
+pub fits_word : (s : List ℕ) (i n : ℕ) → n ≤ 8 → ((i : ℕ) → Fits w8 (get_or s i 0)) → word_at s i (n - i) < 2 ^ 64
+fits_word s i n h b =
+    lt_of_lt_of_le (word_at_lt s i (n - i) (λ k. omega (arith, b k))) (bytes_mono (n - i) 8 (omega arith))
 
-pub bytes_mono : (i j : ℕ) → i ≤ j → 256 ^ i ≤ 256 ^ j
-bytes_mono i j h = pow-le-pow_right (zero-lt-suc 255) h
+part : (s : List ℕ) (at n : ℕ) → word_at (take n (drop at s)) 0 n ≡ word_at s at n
+part s at n =
+    word_at_same (take n (drop at s)) s 0 at n (λ (i : ℕ) (l : i < n). ap (λ (j : ℕ). get_or (take n (drop at s)) j 0) (zero-add i) ∙ get_or-take n (drop at s) i 0 l ∙ get_or-drop at s i 0)
+
+-- the bytes from `at` on, and the first n of them
+pub length_left : (s : List ℕ) (at : ℕ) → length (take (length s - at) (drop at s)) ≡ length s - at
+length_left s at = length-take-le (length s - at) (drop at s) (simp length-drop (omega arith))
+
+pub left_part : (s : List ℕ) (at : ℕ)
+    → word_at (take (length s - at) (drop at s)) 0 (length (take (length s - at) (drop at s))) ≡ word_at s at (length s - at)
+left_part s at = rw length_left (part s at (length s - at))
+
+pub first_part : (s : List ℕ) (at n : ℕ) → n ≤ length s - at
+    → word_at (take n (take (length s - at) (drop at s))) 0 (length (take n (take (length s - at) (drop at s)))) ≡ word_at s at n
+first_part s at n h =
+    rw (take-take n (length s - at) (drop at s) h, length-take-le n (drop at s) (simp length-drop (omega arith))) (part s at n)
+
+-- what each function here promises
+pub bounded : (v : ℕ) (s : List ℕ) (at n : ℕ) → ((i : ℕ) → Fits w8 (get_or s i 0)) → v ≡ word_at s at n → (v ≡ word_at s at n) × (v < 256 ^ n)
+bounded v s at n h e = (e, subst (λ (w : ℕ). w < 256 ^ n) (sym e) (word_at_lt s at n (λ i. omega (arith, h i))))

@@ -1,39 +1,37 @@
-use mathlib.Core.Path.{subst}
-use mathlib.Core.List.{List}
-use Prim.Native.Nat.{ℕ}
+use mathlib.Core.Path.{◌≡◌, sym, ◌∙◌, subst}
 use native.Mathlib.Omega.{arith}
-use Rattle.rules.proofs.Laws.{so}
-use Rattle.map_reader.specs.Map.{MapReadOf, refuses as map-refuses}
-use Rattle.map_reader.specs.declared.map.MapRead.TheVariants as map-read
-use Rattle.play_reader.specs.Plays.{MapFileOf, all, refuses}
-use Rattle.play_reader.specs.declared.MapFile.TheVariants as map_file
-use Rattle.play_reader.proofs.Playing.{map_out, read_start, read_more, read_inside, read_stop, read_end}
 use borrow.Author.Rules.{rules}
+use Rattle.rules.specs.Refusals.{refused, good, refusal_at}
+use Rattle.map_reader.specs.Map.{MapReadOf}
+use Rattle.play_reader.specs.Plays.{MapFileOf, all, refuses}
+use Rattle.play_reader.proofs.Playing.{map_refused, map_out, read_start, read_more, read_stop, read_end}
 use Rattle.play_reader.proofs.read_file.Goals as goal
 
+pub returns-in_err-map : goal.returns-in_err-map
+returns-in_err-map c =
+    let up : c.from_residual.result ≡ refused c.in_err-map.field-0.0 = search rules in
+    subst (MapFileOf c.args.s.now c.args.passed) (sym up) (map_refused (subst (MapReadOf c.args.s.now c.args.passed) c.in_err-map.was c.read_passed.ensures))
+
 pub loop-at-init : goal.loop-at-init
-loop-at-init c = read_start (map_out (subst (MapReadOf c.args.s.now c.args.passed) c.in-Map.is c.read_passed.ensures))
+loop-at-init c = read_start (map_out (subst (MapReadOf c.args.s.now c.args.passed) c.in_ok-map.was c.read_passed.ensures))
 
-pub returns-in-Refused-play_at : goal.returns-in-Refused-play_at
-returns-in-Refused-play_at c = refuses (read_stop c.loop-at.invariant c.loop-at-test.true _ (so c.in-Refused-play_at.is c.play_at.ensures))
-
-pub overflow_add-at : goal.overflow_add-at
-overflow_add-at c =
-    let i = read_inside c.loop-at.invariant c.loop-at-test.true _ (so c.in-Is.is c.play_at.ensures) in
-    search rules
-
-pub loop-at-smaller : goal.loop-at-smaller
-loop-at-smaller c = let h = c.loop-at-test.true in omega (arith, h)
+pub returns-in_err-map_err : goal.returns-in_err-map_err
+returns-in_err-map_err c =
+    let n = c.in_err-map_err.field-0.0.rule in
+    let told : c.play_at.result ≡ refused n = grind arith in
+    let up : c.from_residual-in_err-map_err.result ≡ refused (refusal_at n c.loop-at.at-counter) = grind arith in
+    subst (MapFileOf c.args.s.now c.args.passed) (sym up) (refuses (read_stop c.loop-at.invariant c.loop-at-test.true _ (sym told ∙ c.play_at.ensures)))
 
 pub loop-at-preserved : goal.loop-at-preserved
-loop-at-preserved c = read_more c.loop-at.invariant c.loop-at-test.true _ (so c.in-Is.is c.play_at.ensures)
+loop-at-preserved c =
+    let told : c.play_at.result ≡ good c.in_ok-map_err.field-0 = grind arith in
+    read_more c.loop-at.invariant c.loop-at-test.true _ (sym told ∙ c.play_at.ensures)
 
-pub returns-in-Refused : goal.returns-in-Refused
-returns-in-Refused c =
-    out (subst (MapReadOf c.args.s.now c.args.passed) c.in-Refused.is c.read_passed.ensures)
-  where
-    out : {s : List ℕ} {p n at : ℕ} → MapReadOf s p (map-read.Refused n at) → MapFileOf s p (map_file.Refused n at)
-    out (map-refuses e h) = refuses e
+pub returns-in_ok-map : goal.returns-in_ok-map
+returns-in_ok-map c = let k = c.loop-at.invariant in all k.map k.file k.reached (read_end k c.loop-at-test.false)
 
-pub returns-after-loop-at : goal.returns-after-loop-at
-returns-after-loop-at c = let k = c.loop-at.invariant in all k.map k.file k.reached (read_end k c.loop-at-test.false)
+pub returns-in_ok-map_err : goal.returns-in_ok-map_err
+returns-in_ok-map_err c =
+    let told : c.play_at.result ≡ good c.in_ok-map_err.field-0 = grind arith in
+    let k = read_more c.loop-at.invariant c.loop-at-test.true _ (sym told ∙ c.play_at.ensures) in
+    all k.map k.file k.reached (read_end k (omega arith))

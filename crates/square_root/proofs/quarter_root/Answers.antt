@@ -1,25 +1,14 @@
-use Rattle.std.proofs.Common.{◌*◌, ◌%◌, ◌^◌, lt_of_lt_of_le, arith, pow_mono}
-use Rattle.square_root.proofs.DigitLoop.{start, again, done}
+use Rattle.std.proofs.Common.{◌≡◌, ℕ, ◌+◌, ◌-◌, ◌*◌, ◌/◌, ◌%◌, ◌^◌, ◌<◌, sym, ap, ◌∙◌, arith}
+use native.Mathlib.Nat.{div-div-eq-div-mul}
+use Rattle.numbers.proofs.bits.Fields.{powers}
 use Rattle.square_root.proofs.quarter_root.Goals as goal
 
-pub loop-i-init : goal.loop-i-init
-loop-i-init c = start (c.args.m * 2 ^ 36 % 2 ^ 64) (omega arith)
-
-pub next_digit-q-requires : goal.next_digit-q-requires
-next_digit-q-requires c = (omega arith, lt_of_lt_of_le c.loop-i.invariant.3 (pow_mono {j = 60} (omega arith)), omega arith)
-
-pub overflow_add-i : goal.overflow_add-i
-overflow_add-i c = omega arith
-
-pub loop-i-smaller : goal.loop-i-smaller
-loop-i-smaller c = omega arith
+-- two digits more of m
+two_more : (m i : ℕ) → 0 < i → m / 2 ^ (2 * i) * 4 + m / 2 ^ (2 * (i - 1)) % 4 ≡ m / 2 ^ (2 * (i - 1))
+two_more m i h =
+    let k = 2 * (i - 1) in
+    let upper : m / 2 ^ (2 * i) ≡ m / 2 ^ k / 4 = ap (λ (p : ℕ). m / p) (sym (powers k 2 (2 * i) (omega arith))) ∙ sym (div-div-eq-div-mul m (2 ^ k) 4) in
+    omega (arith, upper)
 
 pub loop-i-preserved : goal.loop-i-preserved
-loop-i-preserved c =
-    again (c.args.m * 2 ^ 36 % 2 ^ 64) c.loop-i.rest c.loop-i.root c.loop-i.remainder c.loop-i.i c.next_digit-q.result.root
-    c.next_digit-q.result.remainder c.loop-i.invariant c.loop-i-test.true c.next_digit-q.ensures.0 c.next_digit-q.ensures.1 c.next_digit-q.ensures.2
-
-pub returns : goal.returns
-returns c =
-    done c.args.m c.loop-i.rest c.loop-i.root c.loop-i.remainder c.loop-i.i
-    c.requires c.loop-i.invariant c.loop-i-test.false
+loop-i-preserved c = c.next_digit-root.ensures ∙ ap (λ (n : ℕ). n * 4 + c.args.m / 2 ^ (2 * (c.loop-i.i - 1)) % 4) c.loop-i.invariant ∙ two_more c.args.m c.loop-i.i (omega arith)

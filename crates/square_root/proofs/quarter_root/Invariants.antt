@@ -1,10 +1,6 @@
--- `square_root::quarter_root` is right since each turn takes two more digits of the number from `rest`, and `next_digit` makes the root of what was taken so far.
-use Rattle.std.proofs.Common.{◌-◌}
-use Rattle.square_root.proofs.DigitLoop.{Inv}
+-- `square_root::quarter_root` is right since before each turn the root is that of the digits of m that were taken. Assumes nothing.
+use Rattle.std.proofs.Common.{◌≡◌, ◌*◌, ◌/◌, ◌^◌}
 use Rattle.square_root.proofs.quarter_root.Given as goal
 
 abbrev pub invariant-loop-i : goal.invariant-loop-i
-invariant-loop-i l = Inv l.initial.rest l.rest l.root l.remainder l.i
-
-abbrev pub decreases-loop-i : goal.decreases-loop-i
-decreases-loop-i l = 14 - l.i
+invariant-loop-i l = l.root ≡ l.m / 2 ^ (2 * l.i)

@@ -14,7 +14,7 @@ finite_arm : (c : In-Finite) →
     (IsFinite c.args.v c.in-Finite.negative c.in-Finite.significand c.in-Finite.exponent)
 finite_arm c =
     parts_value c.args.v (subst T (sym c.well_formed.0.1) tt) c.in-Finite.negative c.in-Finite.significand c.in-Finite.exponent
-    (sym c.split-parts.ensures ∙ c.in-Finite.is)
+    (sym c.split.ensures ∙ c.in-Finite.is)
 
 -- past the test for a zero the value has a size
 sized : (c : Else-significand-eq0) → (0 < c.in-Finite.significand * 2 ^ c.in-Finite.exponent)
@@ -31,29 +31,29 @@ returns-then-negative-2 c =
     let a = c.in-Finite.significand * 2 ^ c.in-Finite.exponent in
     of_negative v a (subst (λ (s : Bool). HasValue v s a (2 ^ 1074)) c.if-negative-2.true (finite_arm (goal.at.returns-then-negative-2 c).In-Finite).value) (sized (goal.at.returns-then-negative-2 c).Else-significand-eq0)
 
-pub normalised-n-requires : goal.normalised-n-requires
-normalised-n-requires c =
-    let f = finite_arm (goal.at.normalised-n-requires c).In-Finite in
+pub new-requires : goal.new-requires
+new-requires c =
+    let f = finite_arm (goal.at.new-requires c).In-Finite in
     (omega (arith, c.if-significand-eq0.false), f.small, f.range)
 
 pub returns-in-NotANumber : goal.returns-in-NotANumber
-returns-in-NotANumber c = of_nan c.args.v (sym c.split-parts.ensures ∙ c.in-NotANumber.is)
+returns-in-NotANumber c = of_nan c.args.v (sym c.split.ensures ∙ c.in-NotANumber.is)
 
 pub returns-then-negative : goal.returns-then-negative
 unfolding of_bits div
 returns-then-negative c =
     of_minus_infinity c.args.v c.in-Infinite.negative
-    (sym c.split-parts.ensures ∙ c.in-Infinite.is) c.if-negative.true
+    (sym c.split.ensures ∙ c.in-Infinite.is) c.if-negative.true
 
 pub returns-else-negative : goal.returns-else-negative
 returns-else-negative c =
     of_infinity c.args.v c.in-Infinite.negative
-    (sym c.split-parts.ensures ∙ c.in-Infinite.is) c.if-negative.false
+    (sym c.split.ensures ∙ c.in-Infinite.is) c.if-negative.false
 
 pub returns-else-negative-2 : goal.returns-else-negative-2
 returns-else-negative-2 c =
     let v = c.args.v in
     let a = c.in-Finite.significand * 2 ^ c.in-Finite.exponent in
-    c.root_of_normal.ensures
-    ∙ ap rooted (same_number c.in-Finite.significand c.in-Finite.exponent c.normalised-n.result.significand c.normalised-n.result.exponent c.normalised-n.ensures.0)
+    c.root.ensures
+    ∙ ap rooted (same_number c.in-Finite.significand c.in-Finite.exponent c.new.result.significand c.new.result.exponent c.new.ensures)
     ∙ of_positive v a (subst (λ (s : Bool). HasValue v s a (2 ^ 1074)) c.if-negative-2.false (finite_arm (goal.at.returns-else-negative-2 c).In-Finite).value) (sized (goal.at.returns-else-negative-2 c).Else-significand-eq0)

@@ -1,35 +1,47 @@
 -- Each return is a step of the definition, and nothing is written.
-use mathlib.Core.Path.{refl, sym, ap, ◌∙◌}
+use Rattle.std.proofs.Common.{rules}
 use Rattle.rules.proofs.Laws.{so}
-use Rattle.play_score.specs.PlayRules.{given_answer}
-use Rattle.board.proofs.Rooms as rooms
-use Rattle.board.proofs.Readings as readings
+use Rattle.board.specs.Read.{read_of}
+use Rattle.board.proofs.Steps.{steps}
+use Rattle.board.proofs.Rooms.{told_refused, told_is}
+use Rattle.board.proofs.Readings.{settings_pass}
 use Rattle.board.proofs.read.read.Goals as goal
 
-pub returns-then-breaks-gt-MAX_BREAK_TIMES : goal.returns-then-breaks-gt-MAX_BREAK_TIMES
-returns-then-breaks-gt-MAX_BREAK_TIMES c =
-    record { value = sym (ap given_answer (readings.many_breaks c.args.board.now c.args.starts.now c.args.count c.args.settings c.args.breaks.now c.args.play c.if-breaks-gt-MAX_BREAK_TIMES.true)); unchanged = (refl, refl, refl) }
+pub returns-then-breaks-gt-MAX_BREAK_TIMES-clause-value : goal.returns-then-breaks-gt-MAX_BREAK_TIMES-clause-value
+unfolding read_of
+returns-then-breaks-gt-MAX_BREAK_TIMES-clause-value c = search (rules, steps)
 
-pub returns-then-has_bad_arguments : goal.returns-then-has_bad_arguments
-returns-then-has_bad_arguments c =
-    let room = rooms.told_is c.args.board.now c.args.starts.now c.args.count _ (so c.in-Is.is c.room_for.ensures) in
-    record { value = sym (ap given_answer (readings.bad_arguments c.args.board.now c.args.starts.now c.args.count c.args.settings c.args.breaks.now c.args.play c.if-breaks-gt-MAX_BREAK_TIMES.false room.0 (so c.has_bad_arguments.ensures c.if-has_bad_arguments.true))); unchanged = (refl, refl, refl) }
+pub returns-in_err-size-clause-value : goal.returns-in_err-size-clause-value
+unfolding read_of
+returns-in_err-size-clause-value c =
+    let room = told_refused c.args.board.now c.args.starts.now c.args.count _ (so c.in_err-size.was c.room_for.ensures) in
+    search (rules, steps)
 
-pub returns-then-has_bad_mods : goal.returns-then-has_bad_mods
-returns-then-has_bad_mods c =
-    let room = rooms.told_is c.args.board.now c.args.starts.now c.args.count _ (so c.in-Is.is c.room_for.ensures) in
-    record { value = sym (ap given_answer (readings.bad_mods c.args.board.now c.args.starts.now c.args.count c.args.settings c.args.breaks.now c.args.play c.if-breaks-gt-MAX_BREAK_TIMES.false room.0 (so c.has_bad_arguments.ensures c.if-has_bad_arguments.false) (so c.has_bad_mods.ensures c.if-has_bad_mods.true))); unchanged = (refl, refl, refl) }
+pub returns-then-has_bad_arguments-clause-value : goal.returns-then-has_bad_arguments-clause-value
+unfolding read_of
+returns-then-has_bad_arguments-clause-value c =
+    let room = told_is c.args.board.now c.args.starts.now c.args.count _ (so c.in_ok-size.was c.room_for.ensures) in
+    search (rules, steps)
+
+pub returns-then-has_bad_mods-clause-value : goal.returns-then-has_bad_mods-clause-value
+unfolding read_of
+returns-then-has_bad_mods-clause-value c =
+    let room = told_is c.args.board.now c.args.starts.now c.args.count _ (so c.in_ok-size.was c.room_for.ensures) in
+    search (rules, steps)
 
 pub read_in-requires : goal.read_in-requires
 read_in-requires c =
-    let room = rooms.told_is c.args.board.now c.args.starts.now c.args.count _ (so c.in-Is.is c.room_for.ensures) in
-    (room.1, c.if-breaks-gt-MAX_BREAK_TIMES.false, readings.settings_pass c.args.settings c.args.breaks.now (so c.has_bad_arguments.ensures c.if-has_bad_arguments.false))
+    let room = told_is c.args.board.now c.args.starts.now c.args.count _ (so c.in_ok-size.was c.room_for.ensures) in
+    (room.1, c.if-breaks-gt-MAX_BREAK_TIMES.false, settings_pass c.args.settings c.args.breaks.now (so c.has_bad_arguments.ensures c.if-has_bad_arguments.false))
 
-pub returns-in-Refused : goal.returns-in-Refused
-returns-in-Refused c =
-    record { value = sym (ap given_answer (readings.no_room c.args.board.now c.args.starts.now c.args.count c.args.settings c.args.breaks.now c.args.play c.if-breaks-gt-MAX_BREAK_TIMES.false _ (rooms.told_refused c.args.board.now c.args.starts.now c.args.count _ (so c.in-Refused.is c.room_for.ensures)))); unchanged = (refl, refl, refl) }
+pub returns-in_err-read_in-clause-value : goal.returns-in_err-read_in-clause-value
+unfolding read_of
+returns-in_err-read_in-clause-value c =
+    let room = told_is c.args.board.now c.args.starts.now c.args.count _ (so c.in_ok-size.was c.room_for.ensures) in
+    search (rules, steps)
 
-pub returns-else-has_bad_mods : goal.returns-else-has_bad_mods
-returns-else-has_bad_mods c =
-    let room = rooms.told_is c.args.board.now c.args.starts.now c.args.count _ (so c.in-Is.is c.room_for.ensures) in
-    record { value = c.read_in.ensures ∙ sym (ap given_answer (readings.reads c.args.board.now c.args.starts.now c.args.count c.args.settings c.args.breaks.now c.args.play c.if-breaks-gt-MAX_BREAK_TIMES.false room.0 (so c.has_bad_arguments.ensures c.if-has_bad_arguments.false) (so c.has_bad_mods.ensures c.if-has_bad_mods.false))); unchanged = (refl, refl, refl) }
+pub returns-clause-value : goal.returns-clause-value
+unfolding read_of
+returns-clause-value c =
+    let room = told_is c.args.board.now c.args.starts.now c.args.count _ (so c.in_ok-size.was c.room_for.ensures) in
+    search (rules, steps)

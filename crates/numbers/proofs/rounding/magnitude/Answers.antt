@@ -9,8 +9,5 @@ returns-then-exponent-ge1074 c =
     let g : 2 ^ 52 ≤ c.args.significand = c.requires.1 (omega arith) in
     omega (arith, closest_large c.args.significand c.args.exponent 1074 (2 ^ 31) c.if-exponent-ge1074.true (omega arith))
 
-pub returns-then-n-gt-I32_LIMIT : goal.returns-then-n-gt-I32_LIMIT
-returns-then-n-gt-I32_LIMIT c = omega (arith, closest_shift c.args.significand c.args.exponent 1074 (omega arith))
-
-pub returns-else-n-gt-I32_LIMIT : goal.returns-else-n-gt-I32_LIMIT
-returns-else-n-gt-I32_LIMIT c = omega (arith, closest_shift c.args.significand c.args.exponent 1074 (omega arith))
+pub returns : goal.returns
+returns c = omega (arith, closest_shift c.args.significand c.args.exponent 1074 (omega arith))

@@ -16,21 +16,21 @@ finite_arm : (c : In-Finite) →
     (IsFinite c.args.x c.in-Finite.negative c.in-Finite.significand c.in-Finite.exponent)
 finite_arm c =
     parts_value c.args.x (subst T (sym c.well_formed.0.1) tt) c.in-Finite.negative c.in-Finite.significand c.in-Finite.exponent
-    (sym c.split-parts.ensures ∙ c.in-Finite.is)
+    (sym c.split.ensures ∙ c.in-Finite.is)
 
 pub magnitude-requires : goal.magnitude-requires
 magnitude-requires c =
     ((finite_arm (goal.at.magnitude-requires c).In-Finite).small, (finite_arm (goal.at.magnitude-requires c).In-Finite).normal)
 
 pub returns-in-NotANumber : goal.returns-in-NotANumber
-returns-in-NotANumber c = even_nan c.args.x (sym c.split-parts.ensures ∙ c.in-NotANumber.is)
+returns-in-NotANumber c = even_nan c.args.x (sym c.split.ensures ∙ c.in-NotANumber.is)
 
 pub returns-in-Infinite : goal.returns-in-Infinite
 returns-in-Infinite c =
     to_z-of_z w32 c.saturate_i32.result (sfits_of c.saturate_i32.type_inv)
     ∙ c.saturate_i32.ensures
     ∙ even_inf c.args.x c.in-Infinite.negative
-    (sym c.split-parts.ensures ∙ c.in-Infinite.is)
+    (sym c.split.ensures ∙ c.in-Infinite.is)
 
 pub returns-in-Finite : goal.returns-in-Finite
 returns-in-Finite c =

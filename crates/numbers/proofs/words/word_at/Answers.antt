@@ -1,25 +1,24 @@
 -- `numbers::words::word_at` is right since the bytes that the end of the input cuts off count as 0: they add nothing. Assumes nothing.
-use Rattle.std.proofs.Common.{◌≡◌, ◌-◌, ◌≤◌, min, length, sym, ◌∙◌, lt_of_lt_of_le, arith}
+use Rattle.std.proofs.Common.{◌-◌, ◌≤◌, min, length, sym, ap, ◌∙◌, arith}
+use Rattle.numbers.specs.Words.{word_at}
 use Rattle.numbers.proofs.words.Laws.{word_at_past, word_at-cut}
-use Rattle.numbers.proofs.words.Reading.{bytes_mono}
+use Rattle.numbers.proofs.words.Reading.{length_left, left_part, first_part, bounded}
 use Rattle.numbers.proofs.words.word_at.Goals as goal
 
-pub returns-then-n-left : goal.returns-then-n-left
-returns-then-n-left c =
-    let e : c.at_most_8-n.result ≡ min c.args.n 8 =
-    c.at_most_8-n.ensures in
-    (simp e at c.whole_word.ensures.0, simp e at c.whole_word.ensures.1)
+pub returns-then-s-at : goal.returns-then-s-at
+returns-then-s-at c = bounded 0 c.args.s.now c.args.at (min c.args.n 8) c.type_inv.s (sym (word_at_past c.args.s.now c.args.at (min c.args.n 8) c.if-s-at.true))
 
-pub returns-else-n-left : goal.returns-else-n-left
-returns-else-n-left c =
-    let n = min c.args.n 8 in
-    let left = length c.args.s.now - c.args.at in
-    let few : left ≤ n = omega (arith, c.at_most_8-n.ensures) in (
-      c.whole_word-else-n-left.ensures.0 ∙ sym (word_at-cut c.args.s.now c.args.at n left few (omega arith)),
-      lt_of_lt_of_le c.whole_word-else-n-left.ensures.1 (bytes_mono left n few),
-    )
+pub returns-then-n-rest : goal.returns-then-n-rest
+returns-then-n-rest c =
+    let s = c.args.s.now in
+    let fits : c.min-n.result ≤ length s - c.args.at = omega (arith, length_left s c.args.at) in
+    bounded c.whole_word.result s c.args.at (min c.args.n 8) c.type_inv.s
+    (c.whole_word.ensures ∙ first_part s c.args.at c.min-n.result fits ∙ ap (word_at s c.args.at) c.min-n.ensures)
 
-pub returns-else-at-s : goal.returns-else-at-s
-returns-else-at-s c =
-    let n = min c.args.n 8 in
-    (sym (word_at_past c.args.s.now c.args.at n c.if-at-s.false), lt_of_lt_of_le (omega arith) (bytes_mono 0 n (omega arith)))
+pub returns-else-n-rest : goal.returns-else-n-rest
+returns-else-n-rest c =
+    let s = c.args.s.now in
+    let few : length s - c.args.at ≤ min c.args.n 8 = omega (arith, length_left s c.args.at) in
+    bounded c.whole_word-else-n-rest.result s c.args.at (min c.args.n 8) c.type_inv.s
+    (c.whole_word-else-n-rest.ensures ∙ left_part s c.args.at
+    ∙ sym (word_at-cut s c.args.at (min c.args.n 8) (length s - c.args.at) few (omega arith)))

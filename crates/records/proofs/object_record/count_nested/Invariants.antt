@@ -1,10 +1,8 @@
--- The loop keeps the answer: with no item above 1, what is left of the list, counted on from the items passed, is the whole; with one, the list is wrong.
-use Prim.Native.Nat.{◌-◌, ◌≤◌}
-use Rattle.records.proofs.Nested.{Passed}
+-- The counters are what the items passed make of them.
+use Rattle.std.proofs.Common.{◌≡◌, ◌≤◌, take}
+use Rattle.records.proofs.Nested.{ones, high}
 use Rattle.records.proofs.object_record.count_nested.Given as goal
 
-abbrev pub invariant-loop-i : goal.invariant-loop-i
-invariant-loop-i l = Passed l.items l.ones l.high l.i × (l.i ≤ l.last)
-
-abbrev pub decreases-loop-i : goal.decreases-loop-i
-decreases-loop-i l = l.last - l.i
+abbrev pub invariant-loop-item : goal.invariant-loop-item
+invariant-loop-item l =
+    record { ones_are : l.ones ≡ ones (take l.item-index l.inside); high_is : l.high ≡ high 0 (take l.item-index l.inside); few : l.ones ≤ l.item-index }

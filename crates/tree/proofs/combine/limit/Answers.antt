@@ -1,22 +1,13 @@
 -- The two checks are those of the definition.
 use mathlib.Core.Path.{ap, ◌∙◌}
-use borrow.Author.Tests.{lt-ltb, le-ltb}
+use borrow.Author.Tests.{lt-ltb}
 use Rattle.rules.proofs.Laws.{so}
 use Rattle.rules.specs.Refusals.{◌>>◌, refuse◌when◌}
 use Rattle.entries.specs.Entry.{in_limits}
 use Rattle.tree.specs.Limited.{limited}
 use Rattle.tree.proofs.combine.limit.Goals as goal
 
-pub returns-then-not-within : goal.returns-then-not-within
-unfolding limited ◌>>◌ refuse◌when◌
-returns-then-not-within c = simp (so (c.within.ensures ∙ ap in_limits c.without_legacy.ensures) c.if-not-within.true)
-
 pub returns-then-e-gt-MAX_SCORE : goal.returns-then-e-gt-MAX_SCORE
 unfolding limited ◌>>◌ refuse◌when◌
 returns-then-e-gt-MAX_SCORE c =
     simp (so (c.within.ensures ∙ ap in_limits c.without_legacy.ensures) c.if-not-within.false, lt-ltb _ _ c.if-e-gt-MAX_SCORE.true)
-
-pub returns : goal.returns
-unfolding limited ◌>>◌ refuse◌when◌
-returns c =
-    simp (so (c.within.ensures ∙ ap in_limits c.without_legacy.ensures) c.if-not-within.false, le-ltb _ _ c.if-e-gt-MAX_SCORE.false)

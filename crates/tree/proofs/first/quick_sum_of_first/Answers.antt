@@ -3,7 +3,7 @@ use native.Mathlib.Omega.{arith}
 use Rattle.rules.proofs.Laws.{so}
 use Rattle.tree.proofs.Jumps.{Summing, summing_start, summing_next, summed, sums_fit, inside}
 use Rattle.tree.proofs.first.quick_sum_of_first.Goals as goal
-use Rattle.tree.proofs.first.quick_sum_of_first.Goals.{After-struct_known-in-Is-1}
+use Rattle.tree.proofs.first.quick_sum_of_first.Goals.{In-Ok}
 
 pub loop-rest-init : goal.loop-rest-init
 loop-rest-init c =
@@ -16,15 +16,15 @@ add-requires c =
 pub sum_of_first-requires : goal.sum_of_first-requires
 sum_of_first-requires c = c.requires
 
-pub returns-in-Refused : goal.returns-in-Refused
-returns-in-Refused c = c.sum_of_first.ensures
+pub returns-in_default : goal.returns-in_default
+returns-in_default c = c.sum_of_first.ensures
 
 -- an entry taken
-next_sum : (c : After-struct_known-in-Is-1) →
-    Summing c.args.b.now c.args.size.levels c.args.size.cap c.args.p (c.loop-rest.done + c.largest_width-width.result.places) (c.loop-rest.rest - c.largest_width-width.result.places) c.in-Is.next
+next_sum : (c : In-Ok) →
+    Summing c.args.b.now c.args.size.levels c.args.size.cap c.args.p (c.loop-rest.done + c.largest_width-width.result.places) (c.loop-rest.rest - c.largest_width-width.result.places) c.in-Ok.next
 next_sum c =
     summing_next c.loop-rest.invariant c.largest_width-width.result.level _ c.largest_width-width.ensures.0 c.largest_width-width.ensures.1 c.largest_width-width.ensures.2 c.requires.1 _
-    (so c.in-Is.is c.add.ensures)
+    (so c.in-Ok.is c.add.ensures)
 
 pub overflow_add-done : goal.overflow_add-done
 overflow_add-done c =
@@ -40,7 +40,7 @@ loop-rest-smaller c =
     omega (arith, c.largest_width-width.ensures.1, lt, some)
 
 pub loop-rest-preserved : goal.loop-rest-preserved
-loop-rest-preserved c = next_sum (goal.at.loop-rest-preserved c).After-struct_known-in-Is-1
+loop-rest-preserved c = next_sum (goal.at.loop-rest-preserved c).In-Ok
 
 pub returns-then-within : goal.returns-then-within
 returns-then-within c = summed c.loop-rest.invariant c.loop-rest-test.false (so c.within.ensures c.if-within.true)

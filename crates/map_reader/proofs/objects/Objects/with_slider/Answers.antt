@@ -1,52 +1,19 @@
--- What was read is the object that the definition finds, and the state goes its step.
-use mathlib.Core.Bool.{true}
-use mathlib.Core.Path.{◌∙◌}
+-- What was read is an object of this kind, within the input.
+use mathlib.Core.Path.{sym, ◌∙◌}
 use native.Mathlib.Omega.{arith}
-use Rattle.records.specs.Records.{SL, object_of, slider_of}
-use Rattle.rules.proofs.Laws.{so}
-use Rattle.map_reader.proofs.Stepping.{stops, slider_read, read_within, read_few, kind_is, next_is, slider_of_lem, slider_free}
+use borrow.Author.Rules.{rules}
+use Rattle.map_reader.proofs.Stepping.{slider_read}
 use Rattle.map_reader.proofs.objects.Objects.with_slider.Goals as goal
 
-pub returns-in_default : goal.returns-in_default
-returns-in_default c = stops true c.args.self (slider_of c.args.r.now) _ (so c.in_default.is c.read_slider.ensures)
-
-pub returns-in_default-item : goal.returns-in_default-item
-returns-in_default-item c =
-    let k = slider_read c.args.r.now _ _ (so c.in-Good.is c.read_slider.ensures) in
-    absurd (c.in_default-item.not-Object _ k.item_is)
-
 pub returns-in_default-kind : goal.returns-in_default-kind
-returns-in_default-kind c =
-    let k = slider_read c.args.r.now _ _ (so c.in-Good.is c.read_slider.ensures) in
-    let is = kind_is k _ c.in-Object.is ∙ slider_of_lem _ k.kind in
-    absurd (c.in_default-kind.not-Slider _ is)
+returns-in_default-kind c = let k = slider_read c.args.r.now c.in-Ok-Object-default.field-0-0-is (sym c.in-Ok-Object-default.is ∙ c.read_slider.ensures) in absurd (search (rules, k.kind))
 
 pub overflow_add-result : goal.overflow_add-result
-unfolding object_of
-overflow_add-result c =
-    let e = so c.in-Good.is c.read_slider.ensures in
-    let k = slider_read c.args.r.now _ _ e in
-    let n = read_within c.args.r.now SL _ _ e in
-    omega (arith, n, c.requires.1)
+overflow_add-result c = let k = slider_read c.args.r.now c.in-Ok-Object-default.field-0-0-is (sym c.in-Ok-Object-default.is ∙ c.read_slider.ensures) in omega (arith, k.inside)
 
 pub slider-requires : goal.slider-requires
-unfolding object_of
 slider-requires c =
-    let e = so c.in-Good.is c.read_slider.ensures in
-    let k = slider_read c.args.r.now _ _ e in
-    let few = read_few c.args.r.now SL _ _ e k _ c.in-Object.is in
-    (c.requires.0.0, rw c.in-Slider.is at few)
+    let k = slider_read c.args.r.now c.in-Ok-Object-default.field-0-0-is (sym c.in-Ok-Object-default.is ∙ c.read_slider.ensures) in (c.requires.0.0, (rw c.in-Slider.is at k.few))
 
 pub process_next-requires : goal.process_next-requires
-unfolding object_of
-process_next-requires c =
-    let e = so c.in-Good.is c.read_slider.ensures in
-    let k = slider_read c.args.r.now _ _ e in
-    (c.requires.0.1, read_few c.args.r.now SL _ _ e k _ c.in-Object.is)
-
-pub returns : goal.returns
-returns c =
-    let e = so c.in-Good.is c.read_slider.ensures in
-    let k = slider_read c.args.r.now _ _ e in
-    let free = slider_free _ k.kind in
-    next_is k _ c.in-Object.is true c.args.self _ c.in-Slider.is _ c.slider.ensures _ c.process_next.ensures (omega (arith, free, c.requires.0.2))
+process_next-requires c = let k = slider_read c.args.r.now c.in-Ok-Object-default.field-0-0-is (sym c.in-Ok-Object-default.is ∙ c.read_slider.ensures) in (c.requires.0.1, k.few)

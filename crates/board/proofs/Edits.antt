@@ -1,7 +1,7 @@
 -- The steps of an edit: each refusal in its turn, then the object's own entry and start are put.
 use Rattle.rules.specs.declared.refusal.Rule.{Rule}
 use Prim.Native.Nat.{ℕ, ◌≤◌, ◌<◌}
-use mathlib.Core.Path.{◌≡◌, refl, sym, ap, ap₂, ◌∙◌, subst}
+use mathlib.Core.Path.{◌≡◌, refl, sym, ap, ◌∙◌, subst}
 use mathlib.Core.Bool.{true}
 use mathlib.Core.List.{List, [], ◌∷◌}
 use native.Mathlib.Omega.{arith}
@@ -22,8 +22,7 @@ use Rattle.entries.specs.Entry.{entry_of, in_limits, own_entry}
 use Rattle.entries.proofs.Accepted.{entry_within, object_bonus}
 use Rattle.entries.proofs.Runs.{entry_own}
 use Rattle.entries.specs.declared.entry.Entry.{Entry}
-use Rattle.tree.specs.Size.{levels_of, cap_of}
-use Rattle.tree.specs.declared.size.Size.{Size}
+use Rattle.tree.specs.Size.{levels_of}
 use Rattle.board.specs.Place.{room_for, Holds, put_place, put_left, written_left}
 use Rattle.board.specs.Edit.{object_only, object_in, alone_of, edit_of}
 use Rattle.board.proofs.Binds.{bound, passed, bind_good, bind_refused, then_good, when_true, when_false}
@@ -81,9 +80,6 @@ own_within r h a =
     ap in_limits (own_is r h a) ∙ entry_within (a.found ∷ []) (one a.within limits.none) (omega arith) (bonus_low a.found a.within)
 
 -- ---- the put behind the checks
-size_is : (size : Size) (n : ℕ) (b : List ℕ) (ts : List Float) → Holds size n b ts → size ≡ record { levels = levels_of n; cap = cap_of n }
-size_is size n b ts h = ap₂ (λ (l c : ℕ). record { levels = l; cap = c }) h.levels h.cap
-
 -- the answer of a put, as an edit gives it
 written_left_lem : (x : Checked (List ℕ × List Float)) (b : List ℕ) (ts : List Float)
     → (at_0 (put_left x b ts).0, (put_left x b ts).1, (put_left x b ts).2) ≡ written_left x b ts
@@ -99,7 +95,7 @@ module _ (b : List ℕ) (ts : List Float) (n place : ℕ) (r : List ℕ) where
 
     module _ (inside : place < n) where
       checked : edit_of b ts n place r
-          ≡ (object_in r >>= (λ o. put_place (record { levels = levels_of n; cap = cap_of n }) place (entry_of (o ∷ [])) o.start b ts))
+          ≡ (object_in r >>= (λ o. put_place (levels_of n) place (entry_of (o ∷ [])) o.start b ts))
       unfolding edit_of
       checked = then_good (room_for b ts n) _ tt room ∙ when_false PLACE _ _ (lt-leb n place inside)
 
@@ -107,14 +103,14 @@ module _ (b : List ℕ) (ts : List Float) (n place : ℕ) (r : List ℕ) where
       bad_record k e = checked ∙ bind_refused (object_in r) _ k e
 
       pub puts : (o : Object) → object_in r ≡ good o
-          → edit_of b ts n place r ≡ put_place (record { levels = levels_of n; cap = cap_of n }) place (entry_of (o ∷ [])) o.start b ts
+          → edit_of b ts n place r ≡ put_place (levels_of n) place (entry_of (o ∷ [])) o.start b ts
       puts o e = checked ∙ bind_good (object_in r) _ o e
 
       -- the same as the code puts it
-      module _ (size : Size) (holds : Holds size n b ts) (h : HitObject) (a : IsAlone r h) (v : Entry) (own : v ≡ own_entry h.kind) where
+      module _ (size : ℕ) (holds : Holds size n b ts) (h : HitObject) (a : IsAlone r h) (v : Entry) (own : v ≡ own_entry h.kind) where
         put_is : put_place size place v h.start_time b ts ≡ edit_of b ts n place r
         put_is =
-            rw (size_is size n b ts holds, own, own_is r h a, a.same) (sym (puts a.found a.read))
+            rw (holds.levels, own, own_is r h a, a.same) (sym (puts a.found a.read))
 
         pub left : (done : Checked (Unit {0})) (b' : List ℕ) (ts' : List Float) → (done, b', ts') ≡ put_left (put_place size place v h.start_time b ts) b ts
             → (at_0 done, b', ts') ≡ written_left (edit_of b ts n place r) b ts

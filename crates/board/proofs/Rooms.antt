@@ -13,7 +13,6 @@ use Rattle.entries.specs.Entry.{place_words}
 use Rattle.rules.specs.Refusals.{Checked, good, refused, ◌>>◌, refuse◌when◌, COUNT, ROOM}
 use Rattle.rules.proofs.Laws.{never}
 use Rattle.tree.specs.Size.{levels_of, cap_of}
-use Rattle.tree.specs.declared.size.Size.{Size}
 use Rattle.board.specs.Place.{room_for, room_of, Holds}
 
 module _ (b : List ℕ) (ts : List Float) (n : ℕ) where
@@ -46,20 +45,12 @@ module _ (b : List ℕ) (ts : List Float) (n : ℕ) where
       go (refused m) e = let s : k ≡ m = cc in ap refused (sym s)
       go (good u) e = never (cc)
 
-  pub told_is : (size : Size) → good size ≡ room_of n (room_for b ts n) → (room_for b ts n ≡ good tt) × Holds size n b ts
+  pub told_is : (size : ℕ) → good size ≡ room_of n (room_for b ts n) → (room_for b ts n ≡ good tt) × Holds size n b ts
   told_is size e = go (room_for b ts n) refl e
     where
       go : (x : Checked (Unit {0})) → room_for b ts n ≡ x → good size ≡ room_of n x → (room_for b ts n ≡ good tt) × Holds size n b ts
       go (refused m) q e = never (cc)
       go (good u) q e =
-          let s : size ≡ record { levels = levels_of n; cap = cap_of n } = cc in
-          let m = measured u q in (
-            q,
-            record {
-              levels = ap (λ (z : Size). z.levels) s;
-              cap = ap (λ (z : Size). z.cap) s;
-              few = m.few;
-              words = m.words;
-              numbers = m.numbers;
-            },
-          )
+          let s : size ≡ levels_of n = cc in
+          let m = measured u q in
+          (q, record { levels = s; few = m.few; words = m.words; numbers = m.numbers })

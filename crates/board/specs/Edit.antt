@@ -9,7 +9,7 @@ use Rattle.records.specs.Objects.{Object, object_view}
 use Rattle.records.specs.Records.{Content, header, break, object, play, object_of}
 use Rattle.records.specs.declared.hit_object.HitObject.{HitObject}
 use Rattle.entries.specs.Entry.{entry_of}
-use Rattle.tree.specs.Size.{levels_of, cap_of}
+use Rattle.tree.specs.Size.{levels_of}
 use Rattle.board.specs.Place.{room_for, put_place}
 
 -- the record of an object holds no other content
@@ -41,4 +41,4 @@ edit_of b ts n place r = do
   room_for b ts n
   refuse PLACE when leb n place
   o ← object_in r
-  put_place (record { levels = levels_of n; cap = cap_of n }) place (entry_of (o ∷ [])) o.start b ts
+  put_place (levels_of n) place (entry_of (o ∷ [])) o.start b ts

@@ -1,12 +1,11 @@
 -- Document 01, "What a caller gets" and "The board": room for a map's board and start table, and an entry and a start put at a place of them.
-use Rattle.std.specs.Prelude.{ℕ, ◌+◌, ◌*◌, ◌≤◌, ◌≡◌, List, ltb, Float, length, set}
+use Rattle.std.specs.Prelude.{ℕ, ◌+◌, ◌*◌, ◌^◌, ◌≤◌, ◌≡◌, List, ltb, Float, length, set}
 use Rattle.rules.specs.Limits.{max_objects}
 use Rattle.entries.specs.Entry.{place_words}
 use Rattle.rules.specs.Refusals.{Checked, good, refused, ◌>>=◌, ◌>>◌, refuse◌when◌, COUNT, ROOM, OrRefusal, refusal_at}
 use Rattle.entries.specs.declared.entry.Entry.{Entry}
 use Rattle.tree.specs.Size.{levels_of, cap_of}
 use Rattle.tree.specs.Put.{climbed}
-use Rattle.tree.specs.declared.size.Size.{Size}
 
 -- "6: .. an 8,193rd object"; "11: the board has fewer than 26 × C words, or the start table fewer numbers than objects"
 unfoldable pub room_for : List ℕ → List Float → ℕ → Checked (Unit {0})
@@ -15,22 +14,21 @@ room_for b ts n = do
   refuse ROOM when ltb (length b) (place_words * cap_of n)
   refuse ROOM when ltb (length ts) n
 
-abbrev pub room_of : ℕ → Checked (Unit {0}) → Checked Size
+abbrev pub room_of : ℕ → Checked (Unit {0}) → Checked ℕ
 room_of n (refused k) = refused k
-room_of n (good _) = good (record { levels = levels_of n; cap = cap_of n })
+room_of n (good _) = good (levels_of n)
 
--- the size for n objects, with room for them in both slices
-pub record Holds (size : Size) (n : ℕ) (b : List ℕ) (ts : List Float) : Type 0 where
-  pub levels : size.levels ≡ levels_of n
-  pub cap : size.cap ≡ cap_of n
+-- the levels for n objects, with room for them in both slices
+pub record Holds (size n : ℕ) (b : List ℕ) (ts : List Float) : Type 0 where
+  pub levels : size ≡ levels_of n
   pub few : n ≤ max_objects
   pub words : place_words * cap_of n ≤ length b
   pub numbers : n ≤ length ts
 
--- both slices, with an entry and what follows from it above, and a start
-unfoldable pub put_place : Size → ℕ → Entry → Float → List ℕ → List Float → Checked (List ℕ × List Float)
-put_place size place v start b ts = do
-  written ← climbed size.levels b (size.cap + place) v
+-- both slices of a board of so many levels, with an entry and what follows from it above, and a start
+unfoldable pub put_place : ℕ → ℕ → Entry → Float → List ℕ → List Float → Checked (List ℕ × List Float)
+put_place levels place v start b ts = do
+  written ← climbed levels b (2 ^ levels + place) v
   good (written, set ts place start)
 
 -- ---- the answers and what both slices hold at last: "a refused call .. leaves all lent memory untouched"

@@ -4,6 +4,7 @@ ghost use Rattle.board.specs.Place.{written_left};
 ghost use Rattle.board.specs.Edit.{object_in, alone_of, edit_of};
 
 use crate::place::{put_at, room_for};
+use entries::checked::CheckedEntry;
 use entries::entry::Entry;
 use numbers::words::word_at;
 use records::hit_object::HitObject;
@@ -49,6 +50,9 @@ pub fn edit(
     }
     let object = read_alone(bytes)?;
     let start = object.start_time;
-    put_at(board, starts, size, place, Entry::own(object), start)?;
+    let entry = CheckedEntry {
+        entry: Entry::own(object),
+    };
+    put_at(board, starts, size, place, entry, start)?;
     Ok(())
 }

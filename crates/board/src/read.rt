@@ -2,7 +2,6 @@
 ghost use Rattle.std.specs.Prelude.{◌≡◌, true, false, ◌≤◌, ◌<◌, ◌^◌, ◌*◌, length};
 ghost use Rattle.std.specs.Int.Signed.{mag};
 ghost use Rattle.rules.specs.Limits.{max_breaks};
-ghost use Rattle.entries.specs.Entry.{in_limits};
 ghost use Rattle.entries.specs.Scores.{unsound};
 ghost use Rattle.ruleset.specs.Stars.{SettingsIn};
 ghost use Rattle.rules.specs.Refusals.{at_0};
@@ -11,8 +10,6 @@ ghost use Rattle.board.specs.Read.{settings_bad, times_bad, arguments_bad, drain
 
 use crate::place::room_for;
 use crate::search::{Found, Starts, find};
-use entries::values::{counts_in, state_in};
-use numbers::naturals::least;
 use play_score::{PlayScore, has_bad_mods, score_on};
 use play_state::Play;
 use records::beatmap::{BreakPeriod, Settings};
@@ -46,33 +43,37 @@ fn has_bad_arguments(settings: Settings, breaks: &[f64]) -> bool
     has_bad_settings(settings) || has_bad_times(breaks) || breaks.len() % 2 == 1
 }
 
+// The settings and the breaks of a map, as a read was given them and with its checks passed: starts and ends in turn.
+#[derive(Clone, Copy)]
+struct GivenMap<'a> {
+    settings: Settings,
+    breaks: &'a [f64],
+    ghost in_range: { SettingsIn settings },
+    ghost few: { length breaks.now ≤ 2 * max_breaks },
+}
+
 #[tactic(auto, using(crate::proofs::Steps::steps), unfolding(crate::specs::Read::drain_from))]
-fn drain_from(starts: Starts, breaks: &[f64], count: usize) -> i64
-    requires { length breaks.now ≤ 2 * max_breaks }
-    ensures { (result ≡ drain_from starts breaks.now count) × (mag result < 2 ^ 53) }
+fn drain_from(starts: Starts, map: GivenMap, count: usize) -> i64
+    ensures { (result ≡ drain_from starts map.entry.breaks.now count) × (mag result < 2 ^ 53) }
 {
     if count == 0 {
         return 0;
     }
     let last = starts.last;
-    drain_len(starts.first, last, break_len(breaks, last))
+    drain_len(starts.first, last, break_len(map.breaks, last))
 }
 
 // The values behind the search.
-fn attributes_from(
-    found: Found,
-    settings: Settings,
-    breaks: &[f64],
-    count: usize,
-) -> ScoreAttributes
-    requires { (length breaks.now ≤ 2 * max_breaks) × SettingsIn settings × (in_limits found.sum ≡ true) × (unsound found.sum ≡ false) }
-    ensures { result ≡ attributes_from found settings breaks.now count }
+fn attributes_from(found: Found, map: GivenMap, count: usize) -> ScoreAttributes
+    requires { unsound found.sum ≡ false }
+    ensures { result ≡ attributes_from found map.entry.settings map.entry.breaks.now count }
 {
     let sum = found.sum;
     let starts = found.starts;
-    let drain = drain_from(starts, breaks, count);
-    let multiplier = score_multiplier(settings, sum.object_count, drain);
-    score_attributes(state_in(sum), counts_in(sum), multiplier)
+    let drain = drain_from(starts, map, count);
+    let entry = sum.entry;
+    let multiplier = score_multiplier(map.settings, entry.object_count, drain);
+    score_attributes(sum.state(), entry.into(), multiplier)
 }
 
 // The search, then the play on what it found.
@@ -82,16 +83,15 @@ fn read_in(
     starts: &[f64],
     size: Size,
     count: usize,
-    settings: Settings,
-    breaks: &[f64],
+    map: GivenMap,
     play: Play,
 ) -> Result<PlayScore, Rule>
-    requires { Holds size count board.now starts.now × (length breaks.now ≤ 2 * max_breaks) × SettingsIn settings }
-    ensures { result ≡ score_from board.now starts.now count settings breaks.now play }
+    requires { Holds size count board.now starts.now }
+    ensures { result ≡ score_from board.now starts.now count map.entry.settings map.entry.breaks.now play }
 {
-    let p = least(play.passed_objects as u64, count as u64) as usize;
+    let p = count.min(usize::from(play.passed_objects));
     let found = find(board, starts, size, count, p)?;
-    score_on(play, attributes_from(found, settings, breaks, count))
+    score_on(play, attributes_from(found, map, count))
 }
 
 // A play on the first objects of a board for `count` objects.
@@ -118,5 +118,6 @@ pub fn read(
     if has_bad_mods(mods) {
         return Err(Rule::PlayField.at(0));
     }
-    Ok(read_in(board, starts, size, count, settings, breaks, play)?)
+    let map = GivenMap { settings, breaks };
+    Ok(read_in(board, starts, size, count, map, play)?)
 }

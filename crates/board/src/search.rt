@@ -3,15 +3,14 @@ ghost use Rattle.std.specs.Prelude.{◌≡◌, ◌-◌, ◌≤◌, length};
 ghost use Rattle.board.specs.Place.{Holds};
 ghost use Rattle.board.specs.Search.{starts_in, found_of};
 
-use entries::entry::Entry;
-use entries::values::is_unsound;
+use entries::checked::CheckedEntry;
 use records::fields::is_time;
 use rules::refusal::Rule;
 use tree::first::quick_sum_of_first;
 use tree::size::Size;
 
 // The starts of the first object and of the last that counts; both 0 where a map has none.
-#[derive(Clone, Copy)]
+#[derive(Clone, Copy, Default)]
 pub struct Starts {
     pub first: f64,
     pub last: f64,
@@ -19,7 +18,7 @@ pub struct Starts {
 
 #[derive(Clone, Copy)]
 pub struct Found {
-    pub sum: Entry,
+    pub sum: CheckedEntry,
     pub starts: Starts,
 }
 
@@ -31,16 +30,13 @@ fn last_place(p: usize) -> usize
 }
 
 // For p of `count` places.
-#[tactic(auto, using(crate::proofs::Steps::steps), unfolding(crate::specs::Search::starts_in))]
+#[tactic(auto, using(crate::proofs::Steps::steps), unfolding(crate::specs::Search::starts_in, numbers::proofs::Literals::of_bits, numbers::proofs::Literals::of_int, numbers::proofs::Literals::round))]
 fn find_starts(starts: &[f64], count: usize, p: usize) -> Result<Starts, Rule>
     requires { (p ≤ count) × (count ≤ length starts.now) }
     ensures { result ≡ starts_in starts.now count p }
 {
     if count == 0 {
-        return Ok(Starts {
-            first: 0.0,
-            last: 0.0,
-        });
+        return Ok(Starts::default());
     }
     let first = starts[0];
     let last = starts[last_place(p)];
@@ -67,7 +63,7 @@ pub fn find(
 {
     let sum = quick_sum_of_first(board, size, p)?;
     let starts = find_starts(starts, count, p)?;
-    if is_unsound(sum) {
+    if sum.is_unsound() {
         return Err(Rule::Board);
     }
     Ok(Found { sum, starts })

@@ -1,5 +1,5 @@
 -- A build answers as its definition does: a file's refusal, no room for the map's objects, or their board and start table. Assumes nothing.
-use Prim.Native.Nat.{ℕ, ◌-◌, ◌*◌, ◌≤◌}
+use Prim.Native.Nat.{ℕ, ◌-◌, ◌*◌, ◌^◌, ◌≤◌}
 use mathlib.Core.Path.{◌≡◌, sym, ap, ap₂, ◌∙◌, subst}
 use mathlib.Core.Bool.{true}
 use mathlib.Core.List.{List, ◌++◌}
@@ -24,7 +24,6 @@ use Rattle.entries.proofs.Accepted.{entry_within}
 use Rattle.tree.specs.Size.{levels_of, cap_of}
 use Rattle.tree.specs.Board.{board_of, starts_of}
 use Rattle.tree.specs.Build.{laid, emptied, Raises, filled}
-use Rattle.tree.specs.declared.size.Size.{Size}
 use Rattle.tree.proofs.Levels.{levels_hold}
 use Rattle.tree.proofs.BuildRight.{laid-length, fills, build_right}
 use Rattle.board.specs.Place.{room_for, room_of, Holds, written_left}
@@ -84,7 +83,7 @@ module _ (s : List ℕ) (b : List ℕ) (ts : List Float) where
         let stopped : build_of os b ts ≡ refused n = rw (rooms.told_refused b ts (length os) n there) in
         on_objects stopped
 
-    module _ (size : Size) (q : good size ≡ room_of m.objects (room_for b ts m.objects)) where
+    module _ (size c : ℕ) (shifted : c ≡ 2 ^ size) (q : good size ≡ room_of m.objects (room_for b ts m.objects)) where
       there : good size ≡ room_of (length os) (room_for b ts (length os))
       there = subst (λ (n : ℕ). good size ≡ room_of n (room_for b ts n)) count_is q
 
@@ -94,20 +93,23 @@ module _ (s : List ℕ) (b : List ℕ) (ts : List Float) where
       read : NoNumber s k.scores
       read = no_number s k.scores k.is
 
+      cap : c ≡ cap_of (length os)
+      cap = shifted ∙ ap (λ (l : ℕ). 2 ^ l) holds.levels
+
       places : length os ≤ cap_of (length os)
       places = levels_hold (length os) holds.few
 
-      pub build_lays : Lays size.cap s m b ts
+      pub build_lays : Lays c s m b ts
       build_lays =
-          let c = count_is in
+          let n = count_is in
           record {
             file = read.file;
             read = read.read;
             p = every_object;
             map = k.map;
-            places = omega (arith, c, places, holds.cap);
-            words = omega (arith, holds.words, holds.cap);
-            numbers = omega (arith, c, holds.numbers);
+            places = omega (arith, n, places, cap);
+            words = omega (arith, holds.words, cap);
+            numbers = omega (arith, n, holds.numbers);
           }
 
       objects_are : objects_of (file_of s) ≡ os
@@ -116,32 +118,32 @@ module _ (s : List ℕ) (b : List ℕ) (ts : List Float) where
       fits : in_limits (entry_of os) ≡ true
       fits = entry_within os limits.objects limits.few_objects limits.low_bonus
 
-      module _ (b' : List ℕ) (ts' : List Float) (r : (b', ts') ≡ objects_laid size.cap (file_of s) b ts) where
+      module _ (b' : List ℕ) (ts' : List Float) (r : (b', ts') ≡ objects_laid c (file_of s) b ts) where
         words_are : b' ≡ laid (cap_of (length os)) os b
-        words_are = ap (λ (x : List ℕ × List Float). x.0) r ∙ ap₂ (λ (c : ℕ) (l : List Object). laid c l b) holds.cap objects_are
+        words_are = ap (λ (x : List ℕ × List Float). x.0) r ∙ ap₂ (λ (c : ℕ) (l : List Object). laid c l b) cap objects_are
 
         starts_are : ts' ≡ starts_of os ++ drop (length os) ts
         starts_are =
             ap (λ (x : List ℕ × List Float). x.1) r ∙ ap (λ (l : List Object). starts_of l ++ drop (length l) ts) objects_are
 
         -- what is laid can be filled
-        pub build_fills : (1 ≤ size.cap) × (m.objects ≤ size.cap) × (size.cap * place_words ≤ length b')
-            × Raises (size.cap - 1) (emptied size.cap m.objects b')
+        pub build_fills : (1 ≤ c) × (m.objects ≤ c) × (c * place_words ≤ length b')
+            × Raises (c - 1) (emptied c m.objects b')
         build_fills =
             let some : 1 ≤ cap_of (length os) = pow_pos (levels_of (length os)) in
             let long = ap length words_are ∙ laid-length (cap_of (length os)) os b in (
-              omega (arith, some, holds.cap),
-              omega (arith, count_is, places, holds.cap),
-              omega (arith, long, holds.words, holds.cap),
-              raises_at os b fits holds.few holds.words holds.cap count_is words_are,
+              omega (arith, some, cap),
+              omega (arith, count_is, places, cap),
+              omega (arith, long, holds.words, cap),
+              raises_at os b fits holds.few holds.words cap count_is words_are,
             )
 
         -- the board and the start table
-        pub build_done : (b'' : List ℕ) → b'' ≡ filled size.cap m.objects b'
+        pub build_done : (b'' : List ℕ) → b'' ≡ filled c m.objects b'
             → ((good tt), b'', ts') ≡ built (scores_of (file_of s)) b ts
         unfolding build_of ◌>>◌
         build_done b'' v =
-            let board = v ∙ filled_at os b fits holds.few holds.words holds.cap count_is words_are in
+            let board = v ∙ filled_at os b fits holds.few holds.words cap count_is words_are in
             let given : build_of os b ts ≡ good (board_of os ++ drop (place_words * cap_of (length os)) b, starts_of os ++ drop (length os) ts) =
             rw (rooms.told_is b ts (length os) size there).0 in
             rw (board, starts_are) (on_objects given)

@@ -60,15 +60,15 @@ pub record SoFar (s : List ℕ) (m : Map) (cap : ℕ) (b₀ : List ℕ) (ts₀ :
   pub lays : Lays cap s m b₀ ts₀
   pub low : place ≤ m.objects
   pub x : Objects
-  pub here : good x ≡ ran_of true place s (objects_at (objects_from m.breaks))
+  pub here : good x ≡ ran_of true place s (objects_at (objects_from m.breaks.count))
   pub at_is : at ≡ x.at
   pub words : b ≡ laid cap (take place lays.map.file.map.objects) b₀
   pub starts : ts ≡ begun (take place lays.map.file.map.objects) ts₀
 
-pub laying_start : {s : List ℕ} {m : Map} {cap : ℕ} {b : List ℕ} {ts : List Float} → Lays cap s m b ts → (at : ℕ) → at ≡ objects_from m.breaks → SoFar s m cap b ts at 0 b ts
+pub laying_start : {s : List ℕ} {m : Map} {cap : ℕ} {b : List ℕ} {ts : List Float} → Lays cap s m b ts → (at : ℕ) → at ≡ objects_from m.breaks.count → SoFar s m cap b ts at 0 b ts
 unfolding ran_of
 laying_start {m = m} {cap = cap} {b = b} h at e =
-    record { lays = h; low = omega arith; x = objects_at (objects_from m.breaks); here = refl; at_is = e; words = sym (laid_none cap b); starts = refl }
+    record { lays = h; low = omega arith; x = objects_at (objects_from m.breaks.count); here = refl; at_is = e; words = sym (laid_none cap b); starts = refl }
 
 module _ {s : List ℕ} {m : Map} {cap : ℕ} {b₀ : List ℕ} {ts₀ : List Float} {at place : ℕ} {b : List ℕ} {ts : List Float} (k : SoFar s m cap b₀ ts₀ at place b ts) where
   abbrev h : Lays cap s m b₀ ts₀
@@ -92,7 +92,7 @@ module _ {s : List ℕ} {m : Map} {cap : ℕ} {b₀ : List ℕ} {ts₀ : List Fl
 
   -- ---- one object
   module _ (lt : place < m.objects) where
-    abbrev next : NextIs s (objects_at (objects_from m.breaks)) os place
+    abbrev next : NextIs s (objects_at (objects_from m.breaks.count)) os place
     next = h.map.nexts place (let c = count in omega (arith, c, lt))
 
     state_is : next.x ≡ k.x
@@ -104,25 +104,25 @@ module _ {s : List ℕ} {m : Map} {cap : ℕ} {b₀ : List ℕ} {ts₀ : List Fl
     pub laying_inside : at + circle_size ≤ length s
     laying_inside = let e = at_next in let i = next.inside in omega (arith, e, i)
 
-    module _ {r : List ℕ} {mark : ℕ} (rest : r ≡ drop at s) (marked : mark ≡ word_at r 0 2) where
-      object_is : object_of r mark ≡ good (object next.o, next.size)
+    module _ {r : List ℕ} (rest : r ≡ drop at s) where
+      object_is : object_of r (word_at r 0 2) ≡ good (object next.o, next.size)
       object_is =
           let same : r ≡ drop next.x.at s = rest ∙ ap (λ (n : ℕ). drop n s) at_next in
-          ap (object_of r) marked ∙ ap (λ (l : List ℕ). object_of l (word_at l 0 2)) same ∙ next.found
+          ap (λ (l : List ℕ). object_of l (word_at l 0 2)) same ∙ next.found
 
       few : FewIn (object next.o)
-      few = all_out (subst (All (λ f. FewIn f.0)) object_is (object_few r mark))
+      few = all_out (subst (All (λ f. FewIn f.0)) object_is (object_few r (word_at r 0 2)))
 
       sized : Sized r (object next.o, next.size)
-      sized = all_out (subst (All (Sized r)) object_is (object_sized r mark))
+      sized = all_out (subst (All (Sized r)) object_is (object_sized r (word_at r 0 2)))
 
-      pub laying_room : LaysRead cap place (record_read (object_of r mark)) b ts
+      pub laying_room : LaysRead cap place (record_read (object_of r (word_at r 0 2))) b ts
       laying_room =
           let w = same_words in
           let n = same_numbers in
           rw object_is (few, (let c = h.places in omega (arith, c, lt)), (let c = h.words in omega (arith, c, w)), (let c = h.numbers in omega (arith, c, n, lt)))
 
-      module _ {size : ℕ} {b' : List ℕ} {ts' : List Float} (q : (size, b', ts') ≡ read_laid cap place (record_read (object_of r mark)) b ts) where
+      module _ {size : ℕ} {b' : List ℕ} {ts' : List Float} (q : (size, b', ts') ≡ read_laid cap place (record_read (object_of r (word_at r 0 2))) b ts) where
         told : (size, b', ts') ≡ read_laid cap place (record_read (good (object next.o, next.size))) b ts
         told = q ∙ ap (λ (y : FoundRecord). read_laid cap place (record_read y) b ts) object_is
 

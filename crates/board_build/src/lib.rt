@@ -2,6 +2,7 @@
 #![tactic(auto)]
 
 ghost use Rattle.std.specs.Prelude.{◌≡◌};
+ghost use Rattle.numbers.specs.Words.{word_at};
 ghost use Rattle.records.specs.Records.{record_read, object_of};
 ghost use Rattle.map_file.specs.File.{file_of};
 ghost use Rattle.scoring.specs.Scores.{scores_of};
@@ -13,8 +14,9 @@ use entries::entry::Entry;
 use entries::words::store;
 use map_reader::map::{Map, objects_from};
 use numbers::words::word_at;
+use records::mark::Mark;
+use records::object_record;
 use records::record::{Read, Record};
-use records::{hit_object, object_record};
 use rules::refusal::Refusal;
 use scoring::plays::check_plays;
 use tree::build::fill;
@@ -50,27 +52,16 @@ fn lay_read(found: Read, board: &mut [u64], starts: &mut [f64], cap: usize, plac
 // Lays the object that r starts with, and gives its size. The file is accepted: order, counts and bonus are checked. Each kind has its reading and
 // its laying in one piece.
 #[tactic(auto, unfolding(records::specs::Records::object_of))]
-fn lay_object(
-    r: &[u8],
-    mark: u64,
-    board: &mut [u64],
-    starts: &mut [f64],
-    cap: usize,
-    place: usize,
-) -> usize
-    requires { LaysRead cap place (record_read (object_of r.now mark)) board.old starts.old }
-    ensures { (result, board.new, starts.new) ≡ read_laid cap place (record_read (object_of r.now mark)) board.old starts.old }
+fn lay_object(r: &[u8], board: &mut [u64], starts: &mut [f64], cap: usize, place: usize) -> usize
+    requires { LaysRead cap place (record_read (object_of r.now (word_at r.now 0 2))) board.old starts.old }
+    ensures { (result, board.new, starts.new) ≡ read_laid cap place (record_read (object_of r.now (word_at r.now 0 2))) board.old starts.old }
 {
-    if mark == hit_object::CI {
-        return lay_read(object_record::read_circle(r), board, starts, cap, place);
+    match Mark::try_from(word_at(r, 0, 2)) {
+        Ok(Mark::Circle) => lay_read(object_record::read_circle(r), board, starts, cap, place),
+        Ok(Mark::Slider) => lay_read(object_record::read_slider(r), board, starts, cap, place),
+        Ok(Mark::Spinner) => lay_read(object_record::read_spinner(r), board, starts, cap, place),
+        Ok(Mark::Header | Mark::Break | Mark::Play) | Err(_) => 0,
     }
-    if mark == hit_object::SL {
-        return lay_read(object_record::read_slider(r), board, starts, cap, place);
-    }
-    if mark == hit_object::SP {
-        return lay_read(object_record::read_spinner(r), board, starts, cap, place);
-    }
-    0
 }
 
 // The own entries and the starts of a map's objects.
@@ -81,7 +72,7 @@ fn lay(file: &[u8], map: Map, board: &mut [u64], starts: &mut [f64], cap: usize)
     let mut at = objects_from(map.breaks);
     for place in 0..map.objects as usize {
         let r = &file[at..];
-        at += lay_object(r, word_at(r, 0, 2), board, starts, cap, place);
+        at += lay_object(r, board, starts, cap, place);
     }
 }
 
@@ -92,7 +83,8 @@ pub fn build(file: &[u8], board: &mut [u64], starts: &mut [f64]) -> Result<(), R
     let (map, _) = check_plays(file, u64::MAX)?;
     let count = map.objects as usize;
     let size = room_for(board, starts, count)?;
-    lay(file, map, board, starts, size.cap);
-    fill(board, size.cap, count);
+    let cap = size.cap();
+    lay(file, map, board, starts, cap);
+    fill(board, cap, count);
     Ok(())
 }

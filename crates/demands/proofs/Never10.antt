@@ -12,25 +12,25 @@ use Rattle.rules.specs.Refusals.{OrRefusal, good, refused, refusal_at, at_0, num
 use Rattle.rules.specs.declared.refusal.Refusal.{Refusal}
 use Rattle.rules.specs.declared.refusal.Rule.{Rule}
 use Rattle.rules.specs.declared.refusal.Rule.TheVariants as rule
+use Rattle.records.specs.declared.beatmap.Settings.{Settings}
 use Rattle.map_file.specs.File.{file_of}
 use Rattle.map_file.specs.declared.file.Reader.{Reader}
 use Rattle.simulator.specs.declared.attributes.ScoreAttributes.{ScoreAttributes}
 use Rattle.play_reader.specs.View.{answer_of, simulated_of}
 use Rattle.play_score.specs.declared.PlayScore.{PlayScore}
 use Rattle.slider_breaks.specs.Given.{BreaksScore, with_breaks}
+use Rattle.slider_breaks.specs.declared.calculator.SliderFactors.{SliderFactors}
 use Rattle.scoring.specs.Scores.{refusal, scores_of, map_score_of, given_play_of, listed_play_of}
 use Rattle.board.specs.Place.{written_left}
 use Rattle.board.specs.Edit.{edit_of}
 use Rattle.board.specs.Read.{read_of}
 use Rattle.board_build.specs.Build.{built}
 use Rattle.host.specs.Status.{status_left}
-use Rattle.host.specs.Map.{settings_in, map_info_of}
+use Rattle.host.specs.Map.{map_info_of}
 use Rattle.host.specs.Play.{play_in}
 use Rattle.host.specs.Answer.{map_answer_of, given_answer_of, single_of, listed_answer_of}
-use Rattle.host.specs.Breaks.{factors_in, breaks_answer_of}
-use Rattle.host.specs.declared.map.HostSettings.{HostSettings}
+use Rattle.host.specs.Breaks.{breaks_answer_of}
 use Rattle.host.specs.declared.play.HostPlay.{HostPlay}
-use Rattle.host.specs.declared.breaks.HostFactors.{HostFactors}
 use Rattle.host.specs.declared.answer.PlayAnswer.{PlayAnswer}
 use Rattle.heat.specs.Heat.{start_of, heat_status_of, heat_of}
 use Rattle.heat.proofs.Heats.{each_play_as_alone}
@@ -44,18 +44,18 @@ pub record Never10 : Type 0 where
   pub score_map : (s : List ℕ) → (map_answer_of (map_score_of (scores_of (file_of s)))).status ≢ 10
   pub score_play : (s : List ℕ) (p : HostPlay) → (single_of (scores_of (file_of s)) p).status ≢ 10
   pub score_play_at : (s : List ℕ) (i : ℕ) → (listed_answer_of (listed_play_of i (scores_of (file_of s)))).status ≢ 10
-  pub score_play_breaks : (s : List ℕ) (p : HostPlay) (f : HostFactors)
-      → (breaks_answer_of (with_breaks (play_in p) (factors_in f) (given_play_of (play_in p) (scores_of (file_of s))))).status ≢ 10
+  pub score_play_breaks : (s : List ℕ) (p : HostPlay) (f : SliderFactors)
+      → (breaks_answer_of (with_breaks (play_in p) f (given_play_of (play_in p) (scores_of (file_of s))))).status ≢ 10
   pub heat : (s : List ℕ) (ps : List HostPlay) (os : List PlayAnswer) → (heat_of (scores_of (file_of s)) ps os).0.status ≢ 10
   -- an outcome that a heat writes; any other is as it was lent
   pub outcome : (s : List ℕ) (ps : List HostPlay) (os : List PlayAnswer) → (heat_of (scores_of (file_of s)) ps os).0.status ≡ 0
       → (i : ℕ) (p : HostPlay) (o : PlayAnswer) → i < length ps → (get_or (heat_of (scores_of (file_of s)) ps os).1 i o).status ≢ 10
   pub build : (s : List ℕ) (b : List ℕ) (ts : List Float) → (status_left (built (scores_of (file_of s)) b ts)).0.status ≢ 10
   pub edit : (b : List ℕ) (ts : List Float) (n place : ℕ) (r : List ℕ) → (status_left (written_left (edit_of b ts n place r) b ts)).0.status ≢ 10
-  pub read : (b : List ℕ) (ts : List Float) (n : ℕ) (s : HostSettings) (br : List Float) (p : HostPlay)
-      → (given_answer_of (at_0 (read_of b ts n (settings_in s) br (play_in p)))).status ≢ 10
-  pub read_breaks : (b : List ℕ) (ts : List Float) (n : ℕ) (s : HostSettings) (br : List Float) (p : HostPlay) (f : HostFactors)
-      → (breaks_answer_of (with_breaks (play_in p) (factors_in f) (at_0 (read_of b ts n (settings_in s) br (play_in p))))).status ≢ 10
+  pub read : (b : List ℕ) (ts : List Float) (n : ℕ) (s : Settings) (br : List Float) (p : HostPlay)
+      → (given_answer_of (at_0 (read_of b ts n s br (play_in p)))).status ≢ 10
+  pub read_breaks : (b : List ℕ) (ts : List Float) (n : ℕ) (s : Settings) (br : List Float) (p : HostPlay) (f : SliderFactors)
+      → (breaks_answer_of (with_breaks (play_in p) f (at_0 (read_of b ts n s br (play_in p))))).status ≢ 10
 
 rule_not_10 : (n : Rule) → number_of n ≢ 10
 rule_not_10 rule.Input = λ e. omega (arith, e)
@@ -106,12 +106,12 @@ ten_is_gone = record {
   score_map = λ s. map_not_10 (map_score_of (scores_of (file_of s)));
   score_play = single_not_10;
   score_play_at = λ s i. listed_not_10 (listed_play_of i (scores_of (file_of s)));
-  score_play_breaks = λ s p f. breaks_not_10 (with_breaks (play_in p) (factors_in f) (given_play_of (play_in p) (scores_of (file_of s))));
+  score_play_breaks = λ s p f. breaks_not_10 (with_breaks (play_in p) f (given_play_of (play_in p) (scores_of (file_of s))));
   heat = heat_not_10;
   outcome = λ s ps os done i p o l e.
       single_not_10 s (get_or ps i p) (sym (ap (λ (a : PlayAnswer). a.status) (each_play_as_alone s ps os done i p o l)) ∙ e);
   build = λ s b ts. (let z = built (scores_of (file_of s)) b ts in left_not_10 z.0 z.1 z.2);
   edit = λ b ts n place r. (let z = written_left (edit_of b ts n place r) b ts in left_not_10 z.0 z.1 z.2);
-  read = λ b ts n s br p. given_not_10 (at_0 (read_of b ts n (settings_in s) br (play_in p)));
-  read_breaks = λ b ts n s br p f. breaks_not_10 (with_breaks (play_in p) (factors_in f) (at_0 (read_of b ts n (settings_in s) br (play_in p))));
+  read = λ b ts n s br p. given_not_10 (at_0 (read_of b ts n s br (play_in p)));
+  read_breaks = λ b ts n s br p f. breaks_not_10 (with_breaks (play_in p) f (at_0 (read_of b ts n s br (play_in p))));
 }

@@ -55,13 +55,11 @@ use Rattle.board.specs.Edit.{object_in, edit_of}
 use Rattle.board_build.specs.Build.{built}
 use Rattle.listing.specs.Listing.{input_text, listed_of}
 use Rattle.host.specs.Status.{status_left}
-use Rattle.host.specs.Map.{settings_in, map_info_of}
+use Rattle.host.specs.Map.{map_info_of}
 use Rattle.host.specs.Play.{play_in}
 use Rattle.host.specs.Answer.{map_answer_of, given_answer_of, single_of, listed_answer_of}
-use Rattle.host.specs.Breaks.{factors_in, breaks_answer_of}
-use Rattle.host.specs.declared.map.HostSettings.{HostSettings}
+use Rattle.host.specs.Breaks.{breaks_answer_of}
 use Rattle.host.specs.declared.play.HostPlay.{HostPlay}
-use Rattle.host.specs.declared.breaks.HostFactors.{HostFactors}
 use Rattle.host.specs.declared.answer.PlayAnswer.{PlayAnswer}
 use Rattle.heat.specs.Heat.{heat_of}
 use Rattle.demands.specs.Calls.{is_accepted, AcceptedMap, changed, times_of, map_in, lent_for, lent_by, Call, edit, read, read_breaks, edits, reads, reads_breaks, answer, lent_after, map_after_all, lent_after_all, MayStand}
@@ -121,7 +119,7 @@ no_read_with_factors_gets_15 : (b : List ℕ) (ts : List Float) (n : ℕ) (s : S
 no_read_with_factors_gets_15 b ts n s br p f at e = omega (arith, (between _ (refused_read_breaks_by_a_rule b ts n s br p f)).1, ap breaks_number e)
 
 -- a host that still tests for 10 never finds it: in no answer of a call on a file, ..
-module _ (s : List ℕ) (p : HostPlay) (f : HostFactors) where
+module _ (s : List ℕ) (p : HostPlay) (f : SliderFactors) where
   abbrev x : Outcome Scores
   x = scores_of (file_of s)
 
@@ -132,7 +130,7 @@ module _ (s : List ℕ) (p : HostPlay) (f : HostFactors) where
       × (eqb (map_answer_of (map_score_of x)).status 10 ≡ false)
       × (eqb (single_of x p).status 10 ≡ false)
       × (eqb (listed_answer_of (listed_play_of i x)).status 10 ≡ false)
-      × (eqb (breaks_answer_of (with_breaks (play_in p) (factors_in f) (given_play_of (play_in p) x))).status 10 ≡ false)
+      × (eqb (breaks_answer_of (with_breaks (play_in p) f (given_play_of (play_in p) x))).status 10 ≡ false)
   no_10_of_a_file i at passed = (
     λ n. never_10.file s n at,
     λ n. never_10.simulate s passed n at,
@@ -149,11 +147,11 @@ module _ (s : List ℕ) (p : HostPlay) (f : HostFactors) where
   no_10_of_a_heat os = (ne_eqb _ 10 (never_10.heat s (p ∷ []) os), λ done o. ne_eqb _ 10 (never_10.outcome s (p ∷ []) os done 0 p o (lit< tt)))
 
   -- .. nor on any board
-  no_10_on_a_board : (b : List ℕ) (ts : List Float) (n place : ℕ) (r : List ℕ) (settings : HostSettings) (br : List Float)
+  no_10_on_a_board : (b : List ℕ) (ts : List Float) (n place : ℕ) (r : List ℕ) (settings : Settings) (br : List Float)
       → (eqb (status_left (built x b ts)).0.status 10 ≡ false)
       × (eqb (status_left (written_left (edit_of b ts n place r) b ts)).0.status 10 ≡ false)
-      × (eqb (given_answer_of (at_0 (read_of b ts n (settings_in settings) br (play_in p)))).status 10 ≡ false)
-      × (eqb (breaks_answer_of (with_breaks (play_in p) (factors_in f) (at_0 (read_of b ts n (settings_in settings) br (play_in p))))).status 10 ≡ false)
+      × (eqb (given_answer_of (at_0 (read_of b ts n settings br (play_in p)))).status 10 ≡ false)
+      × (eqb (breaks_answer_of (with_breaks (play_in p) f (at_0 (read_of b ts n settings br (play_in p))))).status 10 ≡ false)
   no_10_on_a_board b ts n place r settings br = (
     ne_eqb _ 10 (never_10.build s b ts),
     ne_eqb _ 10 (never_10.edit b ts n place r),

@@ -5,7 +5,8 @@ use mathlib.Core.Bool.{Bool, true, false}
 use mathlib.Core.List.{List, [], ◌∷◌, ◌++◌}
 use Prim.Native.Nat.{ℕ, zero, suc, ◌≤◌, ◌<◌}
 use native.Mathlib.Omega.{arith}
-use borrow.Author.Tests.{ltb-false, eqb-false}
+use Rattle.std.specs.Prelude.{is_none}
+use borrow.Author.Tests.{ltb-false}
 use lib.Dec.{eqb, ltb}
 use lib.ListN.{length, take, drop, length-take}
 use lib.Ieee.{Float, binary32, binary64, of_bits, le}
@@ -14,30 +15,32 @@ use Rattle.encoding.proofs.FieldBytes.{double_within}
 use Rattle.rules.specs.Limits.{max_nested, max_breaks, max_objects, max_bonus}
 use Rattle.numbers.specs.Words.{word_at}
 use Rattle.rules.specs.Refusals.{good, refused, pick, CUT, COUNT, MARK, PLAY_FIELD, BONUS}
-use Rattle.records.specs.Fields.{timed, set, setting_of}
+use Rattle.records.specs.Fields.{ranged, setting_of}
+use Rattle.records.specs.Marks.{MH, BR, CI, SL, SP, PL}
 use Rattle.records.specs.Objects.{bonus}
-use Rattle.records.specs.Records.{Content, header, break, object, play, FoundRecord, CI, SL, SP, header_of, break_of, circle_of, nested_of, slider_of, spinner_of, play_of, object_of, content_view}
-use Rattle.map_file.specs.Order.{MH, BR, PL, body_of, record_of}
+use Rattle.records.specs.Records.{Content, header, break, object, play, FoundRecord, header_of, break_of, circle_of, nested_of, slider_of, spinner_of, play_of, object_of, content_view}
+use Rattle.map_file.specs.Order.{place, body_of, record_of}
 use Rattle.map_file.specs.File.{File, Result, accepted, refused_at, counts_of, with_record, follow, ended, file_from, nothing_read, file_of}
 use Rattle.map_file.specs.View.{Fits}
 use Rattle.encoding.specs.Limits.{Within, IsSetting, Each, none, one, SettingsWithin, BreakWithin, ObjectWithin, MapWithin}
 use Rattle.map_file.specs.declared.file.Counts.{Counts}
 use Rattle.encoding.proofs.RecordsBack.{nested_length}
-use Rattle.encoding.proofs.Written.{timed_all, nested_are}
+use Rattle.encoding.proofs.Written.{ranged_all, nested_are}
 use Rattle.rules.proofs.All as checked
 use Rattle.rules.proofs.All.{All, that, all_bind, all_any, all_when, all_pick, all_map}
 use Rattle.map_file.proofs.Bodies.{bonus_kept}
+use Rattle.map_file.proofs.Ranks.{some_placed}
 use Rattle.map_file.proofs.Room.{record_fits, Begun, record_begun}
 use Rattle.map_file.proofs.Reading.{found_at, length_snoc, bonus_snoc}
 
 -- ---- the floats of a record
-within_all : (low high : Float) (b : ℕ) → All (Within binary64 low high) (timed (double_within low high (of_bits binary64 b)))
-within_all low high b = timed_all low high (of_bits binary64 b) (λ e f. record { held = of_bits-fits binary64 b; above = e; below = f })
+within_all : (low high : Float) (b : ℕ) → All (Within binary64 low high) (ranged (double_within low high (of_bits binary64 b)))
+within_all low high b = ranged_all low high (of_bits binary64 b) (λ e f. record { held = of_bits-fits binary64 b; above = e; below = f })
 
-setting_all : (b : ℕ) → All IsSetting (set (setting_of b))
+setting_all : (b : ℕ) → All IsSetting (ranged (setting_of b))
 setting_all b = go (le (of_bits binary32 0) (of_bits binary32 b)) refl (le (of_bits binary32 b) (of_bits binary32 0x41400000)) refl
   where
-    go : (p : Bool) → le (of_bits binary32 0) (of_bits binary32 b) ≡ p → (q : Bool) → le (of_bits binary32 b) (of_bits binary32 0x41400000) ≡ q → All IsSetting (set (setting_of b))
+    go : (p : Bool) → le (of_bits binary32 0) (of_bits binary32 b) ≡ p → (q : Bool) → le (of_bits binary32 b) (of_bits binary32 0x41400000) ≡ q → All IsSetting (ranged (setting_of b))
     go true e true f = rw (e, f) (that (record { held = of_bits-fits binary32 b; above = e; below = f }))
     go true e false f = rw (e, f) checked.none
     go false e q f = rw e checked.none
@@ -100,7 +103,7 @@ record_within r c =
 
 -- ---- what was read
 pub record FileWithin (f : File) : Type 0 where
-  pub settings : 0 < f.last → SettingsWithin f.map.settings
+  pub settings : 0 < place f.last → SettingsWithin f.map.settings
   pub breaks : Each BreakWithin f.map.breaks
   pub few_breaks : length f.map.breaks ≤ max_breaks
   pub objects : Each ObjectWithin f.map.objects
@@ -159,13 +162,12 @@ pub data IfAccepted (P : File → Type 0) : Result → Type 0 where
   no : {n : Rule} {at : ℕ} {f : File} → IfAccepted P (refused_at n at f)
 
 ended-within : (f : File) → FileWithin f → IfAccepted (λ g. MapWithin g.map) (ended f)
-ended-within f w = go (eqb f.last 0) refl
+ended-within f w = go (is_none f.last) refl
   where
-    go : (b : Bool) → eqb f.last 0 ≡ b → IfAccepted (λ g. MapWithin g.map) (pick b (refused_at MARK 0 f) (accepted f))
+    go : (b : Bool) → is_none f.last ≡ b → IfAccepted (λ g. MapWithin g.map) (pick b (refused_at MARK 0 f) (accepted f))
     go true e = no
     go false e =
-        let some : 0 < f.last = (let ne = eqb-false f.last 0 e in omega (arith, ne)) in
-        yes (record { settings = w.settings some; breaks = w.breaks; few_breaks = w.few_breaks; objects = w.objects; few_objects = w.few_objects; low_bonus = w.low_bonus })
+        yes (record { settings = w.settings (some_placed f.last e); breaks = w.breaks; few_breaks = w.few_breaks; objects = w.objects; few_objects = w.few_objects; low_bonus = w.low_bonus })
 
 follow-within : (f : File) (x : FoundRecord) (go : Content × ℕ → Result) → All (λ r. FileWithin (with_record f r)) x
     → ((r : Content × ℕ) → FileWithin (with_record f r) → IfAccepted (λ g. MapWithin g.map) (go r)) → IfAccepted (λ g. MapWithin g.map) (follow f x go)

@@ -5,7 +5,8 @@ use mathlib.Core.List.{List, [], ◌∷◌, ◌++◌, append_assoc, append-nil}
 use mathlib.Core.Path.{◌≡◌, refl, sym, ap, ap₂, ◌∙◌, subst}
 use Prim.Native.Nat.{ℕ, zero, suc, ◌+◌, ◌^◌, ◌≤◌, ◌<◌}
 use native.Mathlib.Omega.{arith}
-use borrow.Author.Tests.{eqb-true, eqb-false, ltb-false, not-false}
+use Rattle.std.specs.Prelude.{is_none}
+use borrow.Author.Tests.{ltb-false, not-false}
 use lib.Dec.{T, eqb, ltb}
 use lib.Ieee.Bits.{of_bits-fits}
 use lib.Ieee.{Float, binary64, fits, of_bits, lt, le}
@@ -16,14 +17,17 @@ use Rattle.numbers.proofs.words.Laws.{Bytes, word_at_lt}
 use Rattle.rules.specs.Refusals.{good, refused, pick, CUT, MARK, PLAY_FIELD, COUNT, BONUS}
 use Rattle.rules.proofs.All.{All, that, all_bind, all_any, all_when, all_pick, all_out}
 use Rattle.rules.proofs.All as checked
-use Rattle.play_state.specs.Play.{score_of, score_checked, hitresults_of}
+use Rattle.play_state.specs.Play.{score_of, hitresults_of, played}
 use Rattle.play_state.specs.declared.Play.{Play}
-use Rattle.records.specs.Fields.{played, rate_of, rate_limit}
-use Rattle.records.specs.Records.{Content, header, break, object, play, FoundRecord, CI, SL, SP, header_of, break_of, circle_of, slider_of, spinner_of, play_of, object_of}
-use Rattle.map_file.specs.Order.{rank_of, in_order, body_of, record_of, MH, BR, PL}
+use Rattle.records.specs.Fields.{rate_of, rate_limit}
+use Rattle.records.specs.Marks.{MH, BR, CI, SL, SP, PL}
+use Rattle.records.specs.Records.{Content, header, break, object, play, FoundRecord, header_of, break_of, circle_of, slider_of, spinner_of, play_of, object_of}
+use Rattle.map_file.specs.Order.{no_rank, place, rank_of, in_order, body_of, record_of}
 use Rattle.map_file.specs.File.{File, Result, accepted, refused_at, counts_of, with_record, follow, ended, file_from, nothing_read, file_of}
 use Rattle.map_file.specs.declared.file.Counts.{Counts}
-use Rattle.map_file.proofs.Room.{place_of, body_placed, Begun, record_begun}
+use Rattle.rules.proofs.Laws.{never}
+use Rattle.map_file.proofs.Ranks.{none_is, some_placed}
+use Rattle.map_file.proofs.Room.{content_rank, body_placed, Begun, record_begun}
 use Rattle.map_file.proofs.Reading.{found_at, found_ordered}
 use Rattle.encoding.specs.Limits.{Each, none, ScoreWithin, PlayWithin}
 use Rattle.encoding.specs.Encoding.{header_bytes, play_bytes, each, map_file}
@@ -37,13 +41,13 @@ file_bytes f = map_file f.map ++ each play_bytes (bare f.plays)
 
 -- ---- a header is the first record
 abbrev First : Counts → Content → Type 0
-First c (header s) = c.last ≡ 0
+First c (header s) = c.last ≡ no_rank
 First c (break b) = Unit
 First c (object o) = Unit
 First c (play p) = Unit
 
-first : (c : Counts) (m : ℕ) (x : Content) → place_of x ≡ rank_of m → in_order c.last (rank_of m) ≡ true → First c x
-first c m (header s) p q = eqb-true c.last 0 (rw (sym p) at q)
+first : (c : Counts) (m : ℕ) (x : Content) → content_rank x ≡ rank_of m → in_order c.last (rank_of m) ≡ true → First c x
+first c m (header s) p q = none_is c.last (rw (sym p) at q)
 first c m (break b) p q = tt
 first c m (object o) p q = tt
 first c m (play s) p q = tt
@@ -61,10 +65,10 @@ PlayFields (break b) = Unit
 PlayFields (object o) = Unit
 PlayFields (play p) = PlayWithin p
 
-score_within : (present n : ℕ) → n < 2 ^ 32 → All ScoreWithin (score_checked (score_of present n))
+score_within : (present n : ℕ) → n < 2 ^ 32 → All ScoreWithin (played (score_of present n))
 score_within present n h = go (eqb present 1) refl (eqb present 0) refl (eqb n 0) refl
   where
-    go : (x : Bool) → eqb present 1 ≡ x → (y : Bool) → eqb present 0 ≡ y → (z : Bool) → eqb n 0 ≡ z → All ScoreWithin (score_checked (score_of present n))
+    go : (x : Bool) → eqb present 1 ≡ x → (y : Bool) → eqb present 0 ≡ y → (z : Bool) → eqb n 0 ≡ z → All ScoreWithin (played (score_of present n))
     go true e y f z g = rw e (that h)
     go false e true f true g = rw (e, f, g) (that tt)
     go false e true f false g = rw (e, f, g) checked.none
@@ -123,10 +127,10 @@ module _ (r : List ℕ) (b : Bytes r) where
 
 -- ---- what was read so far
 record Held (s : List ℕ) (f : File) : Type 0 where
-  start : f.last ≡ 0 → (f.at ≡ 0) × (f.map.breaks ≡ []) × (f.map.objects ≡ []) × (f.plays ≡ [])
-  early : f.last ≤ 2 → f.map.objects ≡ []
-  middle : f.last ≤ 3 → f.plays ≡ []
-  same : 0 < f.last → take f.at s ≡ file_bytes f
+  start : f.last ≡ no_rank → (f.at ≡ 0) × (f.map.breaks ≡ []) × (f.map.objects ≡ []) × (f.plays ≡ [])
+  early : place f.last ≤ 2 → f.map.objects ≡ []
+  middle : place f.last ≤ 3 → f.plays ≡ []
+  same : 0 < place f.last → take f.at s ≡ file_bytes f
   plays : Each PlayWithin (bare f.plays)
 
 pub written_snoc : {A : Type 0} (g : A → List ℕ) (l : List A) (x : A) → each g (l ++ (x ∷ [])) ≡ each g l ++ g x
@@ -139,7 +143,7 @@ unfolding bare
 bare_snoc [] at p = refl
 bare_snoc (x ∷ l) at p = ap (λ (t : List Play). x.1 ∷ t) (bare_snoc l at p)
 
-held_with : (s : List ℕ) (f : File) (x : Content) (n : ℕ) → First (counts_of f) x → Begun (counts_of f) x → f.last ≤ place_of x → PlayFields x
+held_with : (s : List ℕ) (f : File) (x : Content) (n : ℕ) → First (counts_of f) x → Begun (counts_of f) x → place f.last ≤ place (content_rank x) → PlayFields x
     → take n (drop f.at s) ≡ record_bytes x → Held s f → Held s (with_record f (x, n))
 unfolding with_record map_file each bare counts_of
 held_with s f (header t) n head some low fields e h =
@@ -147,7 +151,7 @@ held_with s f (header t) n head some low fields e h =
     let none_before : 0 + n ≡ n = omega arith in
     let bytes : take n s ≡ header_bytes t = subst (λ (k : ℕ). take n (drop k s) ≡ header_bytes t) z.0 e in
     record {
-      start = λ k. absurd (omega (arith, k));
+      start = λ k. never (cc);
       early = λ _. z.2;
       middle = λ _. z.3;
       same = λ _. simp (z.0, z.1, z.2, z.3, none_before, append-nil) bytes;
@@ -157,7 +161,7 @@ held_with s f (break b) n head some low fields e h =
     let os = h.early low in
     let ps = h.middle (omega (arith, low)) in
     record {
-      start = λ k. absurd (omega (arith, k));
+      start = λ k. never (cc);
       early = λ _. os;
       middle = λ _. ps;
       same = λ _. take-add f.at n s ∙ ap₂ (λ (x y : List ℕ). x ++ y) (h.same some) e ∙ simp (os, ps, written_snoc, append-nil, append_assoc);
@@ -166,7 +170,7 @@ held_with s f (break b) n head some low fields e h =
 held_with s f (object o) n head some low fields e h =
     let ps = h.middle low in
     record {
-      start = λ k. absurd (omega (arith, k));
+      start = λ k. never (cc);
       early = λ k. absurd (omega (arith, k));
       middle = λ _. ps;
       same = λ _. take-add f.at n s ∙ ap₂ (λ (x y : List ℕ). x ++ y) (h.same some) e ∙ simp (ps, written_snoc, append-nil, append_assoc);
@@ -174,7 +178,7 @@ held_with s f (object o) n head some low fields e h =
     }
 held_with s f (play p) n head some low fields e h =
     record {
-      start = λ k. absurd (omega (arith, k));
+      start = λ k. never (cc);
       early = λ k. absurd (omega (arith, k));
       middle = λ k. absurd (omega (arith, k));
       same = λ _. take-add f.at n s ∙ ap₂ (λ (x y : List ℕ). x ++ y) (h.same some) e ∙ simp (bare_snoc, written_snoc, append_assoc);
@@ -202,13 +206,11 @@ module _ (s : List ℕ) (b : Bytes s) where
       h
 
   ended-whole : (f : File) → length s ≤ f.at → Held s f → Whole (ended f)
-  ended-whole f all h = go (eqb f.last 0) refl
+  ended-whole f all h = go (is_none f.last) refl
     where
-      go : (t : Bool) → eqb f.last 0 ≡ t → Whole (pick t (refused_at MARK 0 f) (accepted f))
+      go : (t : Bool) → is_none f.last ≡ t → Whole (pick t (refused_at MARK 0 f) (accepted f))
       go true e = no
-      go false e =
-          let some : 0 < f.last = (let ne = eqb-false f.last 0 e in omega (arith, ne)) in
-          yes (sym (take_all f.at s all) ∙ h.same some, h.plays)
+      go false e = yes (sym (take_all f.at s all) ∙ h.same (some_placed f.last e), h.plays)
 
   whole_from : (fuel : ℕ) (f : File) → Held s f → Whole (file_from fuel s f)
   unfolding file_from

@@ -13,11 +13,11 @@ use lib.Ieee.{Float, binary32, binary64, fits, of_bits, to_bits, lt, le}
 use Rattle.rules.specs.Limits.{max_nested}
 use Rattle.numbers.proofs.bits.Laws.{written_read, written_lt}
 use Rattle.rules.specs.Refusals.{Checked, good, ◌>>=◌, ◌>>◌, refuse◌when◌, pick, PLAY_FIELD}
-use Rattle.records.specs.Fields.{setting_of, played}
+use Rattle.records.specs.Fields.{setting_of}
 use Rattle.records.specs.Objects.{Item, tick, repeat, circle, slider, spinner}
 use Rattle.records.specs.Records.{header, break, object, play, header_of, break_of, circle_of, item_of, nested_of, slider_of, spinner_of, play_of}
 use Rattle.encoding.specs.Limits.{Within, IsTime, IsSetting, IsDuration, SettingsWithin, BreakWithin, ScoreWithin, PlaySized, PlayWithin}
-use Rattle.play_state.specs.Play.{origin_of, score_of, flags_bad, hitresults_of}
+use Rattle.play_state.specs.Play.{origin_of, score_of, flags_bad, hitresults_of, played}
 use Rattle.encoding.specs.Encoding.{fields_of, header_fields, break_fields, circle_fields, slider_fields, spinner_fields, play_fields, origin_byte, present_byte, score_number, item_byte, nested_bytes, header_bytes, break_bytes, play_bytes}
 use Rattle.records.specs.declared.beatmap.Settings.{Settings}
 use Rattle.records.specs.declared.beatmap.BreakPeriod.{BreakPeriod}

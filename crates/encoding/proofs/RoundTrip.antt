@@ -6,16 +6,18 @@ use mathlib.Core.Bool.{true, false}
 use mathlib.Core.List.{List, [], ◌∷◌, ◌++◌, append_assoc, append-nil}
 use Prim.Native.Nat.{ℕ, suc, ◌+◌, ◌≤◌, ◌<◌}
 use native.Mathlib.Omega.{arith}
-use borrow.Author.Tests.{lt-ltb, le-ltb, lt-leb, le-leb, ne_eqb}
+use Rattle.std.specs.Prelude.{Option}
+use borrow.Author.Tests.{lt-ltb, le-ltb, lt-leb, le-leb}
 use lib.Dec.{lit<}
 use lib.ListN.{length, drop, length-append, length-drop}
 use lib.Seq.{drop-drop, drop_at}
 use Rattle.rules.specs.Limits.{max_bonus, max_breaks, max_objects}
 use Rattle.numbers.specs.Words.{word_at}
 use Rattle.rules.specs.Refusals.{good, refused, ◌>>=◌, ◌>>◌, refuse◌when◌, BONUS}
+use Rattle.records.specs.Marks.{MH, BR, CI, SL, SP, PL}
 use Rattle.records.specs.Objects.{circle, slider, spinner, Kind, Object, bonus, kind_bonus}
-use Rattle.records.specs.Records.{Content, header, break, object, play, CI, SL, SP, object_of, play_of}
-use Rattle.map_file.specs.Order.{MH, BR, PL, rank_of, in_order, is_full, content_bonus, body_of, record_of}
+use Rattle.records.specs.Records.{Content, header, break, object, play, object_of, play_of}
+use Rattle.map_file.specs.Order.{break_rank, object_rank, play_rank, place, rank_of, follows, in_order, is_full, content_bonus, body_of, record_of}
 use Rattle.map_file.specs.File.{Map, File, accepted, refused_at, counts_of, with_record, nothing_read, file_of}
 use Rattle.encoding.specs.Limits.{Each, one, SettingsWithin, BreakWithin, KindWithin, ObjectWithin, MapWithin, PlayWithin}
 use Rattle.encoding.specs.Encoding.{fields_of, header_fields, break_fields, circle_fields, slider_fields, spinner_fields, play_fields, nested_bytes, kind_bytes, header_bytes, break_bytes, object_bytes, play_bytes, each, map_file}
@@ -23,8 +25,10 @@ use Rattle.records.specs.declared.beatmap.Settings.{Settings}
 use Rattle.records.specs.declared.beatmap.BreakPeriod.{BreakPeriod}
 use Rattle.play_state.specs.declared.Play.{Play}
 use Rattle.map_file.specs.declared.file.Counts.{Counts}
+use Rattle.map_file.specs.declared.file.Rank.{Rank}
 use Rattle.encoding.proofs.FieldBytes.{fields_length, mark_back}
 use Rattle.encoding.proofs.RecordsBack.{header_back, break_back, circle_back, slider_back, spinner_back, play_back, nested_length}
+use Rattle.map_file.proofs.Ranks.{placed_some}
 use Rattle.map_file.proofs.Reading.{On, on_start, on_step, on_stop, on_end, with_at, length_snoc, bonus_snoc}
 
 -- ---- one record: found where the order, the counts and the bonus admit it
@@ -87,13 +91,13 @@ run-header s h rest w e =
     run_step s nothing_read (header_bytes h) rest (header h) 14 (record { on = on_start s; left = e }) (header_long h) (omega arith) (header_found h rest w)
 
 -- the order and the counts of a record that may follow
-in_order_lem : (last rank : ℕ) → 1 < rank → 0 < last → last ≤ rank → in_order last rank ≡ true
-in_order_lem last rank a b c = simp (lt-leb rank 1 a, lt-ltb 0 last b, le-leb last rank c)
+follows_lem : (last rank : Option Rank) → 0 < place last → place last ≤ place rank → follows last rank ≡ true
+follows_lem last rank a b = simp (lt-ltb 0 (place last) a, le-leb (place last) (place rank) b)
 
 -- what the rest of a file asks of what was read
-pub record Ready (f : File) (rank : ℕ) : Type 0 where
-  pub begun : 0 < f.last
-  pub early : f.last ≤ rank
+pub record Ready (f : File) (rank : Option Rank) : Type 0 where
+  pub begun : 0 < place f.last
+  pub early : place f.last ≤ place rank
   pub low : bonus f.map.objects ≤ max_bonus
 
 -- ---- breaks
@@ -102,16 +106,16 @@ unfolding break_bytes
 break_long b = (fields_length (break_fields b), lit< tt)
 
 record BreaksNext (f : File) (l : List BreakPeriod) : Type 0 where
-  ready : Ready f 2
+  ready : Ready f break_rank
   room : length f.map.breaks + length l ≤ max_breaks
   within : Each BreakWithin l
 
-break_found : (f : File) (b : BreakPeriod) (rest : List ℕ) → Ready f 2 → length f.map.breaks < max_breaks → BreakWithin b → record_of (break_bytes b ++ rest) (counts_of f) ≡ good (break b, 18)
+break_found : (f : File) (b : BreakPeriod) (rest : List ℕ) → Ready f break_rank → length f.map.breaks < max_breaks → BreakWithin b → record_of (break_bytes b ++ rest) (counts_of f) ≡ good (break b, 18)
 unfolding break_bytes body_of counts_of
 break_found f b rest r room w =
     let long : length (break_bytes b) ≡ 18 = (break_long b).0 in
     record_good (break_bytes b ++ rest) (counts_of f) BR (break b) 18 (two_bytes (break_bytes b) rest (omega (arith, long))) (mark_back BR _ rest (lit< tt))
-    (in_order_lem f.last 2 (lit< tt) r.begun r.early) (lt-leb max_breaks (length f.map.breaks) room) (break_back b rest w) (let h = r.low in omega (arith, h))
+    (follows_lem f.last break_rank r.begun r.early) (lt-leb max_breaks (length f.map.breaks) room) (break_back b rest w) (let h = r.low in omega (arith, h))
 
 breaks_step : (f : File) (b : BreakPeriod) (l : List BreakPeriod) (rest : List ℕ) → BreaksNext f (b ∷ l)
     → (record_of (break_bytes b ++ rest) (counts_of f) ≡ good (break b, 18)) × BreaksNext (with_record f (break b, 18)) l
@@ -166,7 +170,7 @@ object_two o = let long = object_long o in let h = at_least o.kind in omega (ari
 record Marked (o : Object) (rest : List ℕ) : Type 0 where
   mark : ℕ
   there : word_at (object_bytes o ++ rest) 0 2 ≡ mark
-  rank : rank_of mark ≡ 3
+  rank : rank_of mark ≡ object_rank
   body : body_of (object_bytes o ++ rest) mark ≡ object_of (object_bytes o ++ rest) mark
   back : object_of (object_bytes o ++ rest) mark ≡ good (object o, object_size o)
 
@@ -204,17 +208,17 @@ object_back o rest w =
     let k = marked o rest w in
     ap (object_of (object_bytes o ++ rest)) k.there ∙ k.back ∙ ap (λ (n : ℕ). good (object o, n)) (sym (object_long o).0)
 
-object_found : (f : File) (o : Object) (rest : List ℕ) → Ready f 3 → length f.map.objects < max_objects → bonus f.map.objects + kind_bonus o.kind ≤ max_bonus → ObjectWithin o
+object_found : (f : File) (o : Object) (rest : List ℕ) → Ready f object_rank → length f.map.objects < max_objects → bonus f.map.objects + kind_bonus o.kind ≤ max_bonus → ObjectWithin o
     → record_of (object_bytes o ++ rest) (counts_of f) ≡ good (object o, object_size o)
 unfolding counts_of
 object_found f o rest r room low w =
     let k = marked o rest w in
     record_good (object_bytes o ++ rest) (counts_of f) k.mark (object o) (object_size o) (two_bytes (object_bytes o) rest (object_two o)) k.there
-    (rw k.rank (in_order_lem f.last 3 (lit< tt) r.begun r.early)) (rw k.rank (lt-leb max_objects (length f.map.objects) room))
+    (rw k.rank (follows_lem f.last object_rank r.begun r.early)) (rw k.rank (lt-leb max_objects (length f.map.objects) room))
     (k.body ∙ k.back) low
 
 record ObjectsNext (f : File) (l : List Object) : Type 0 where
-  ready : Ready f 3
+  ready : Ready f object_rank
   room : length f.map.objects + length l ≤ max_objects
   low : bonus f.map.objects + bonus l ≤ max_bonus
   within : Each ObjectWithin l
@@ -247,7 +251,7 @@ unfolding play_bytes
 play_long p = (fields_length (play_fields p), lit< tt)
 
 record PlaysNext (f : File) (l : List Play) : Type 0 where
-  ready : Ready f 4
+  ready : Ready f play_rank
   within : Each PlayWithin l
 
 play-two : (p : Play) (rest : List ℕ) → 2 ≤ length (play_bytes p ++ rest)
@@ -257,12 +261,12 @@ play_mark : (p : Play) (rest : List ℕ) → word_at (play_bytes p ++ rest) 0 2 
 unfolding play_bytes
 play_mark p rest = mark_back PL _ rest (lit< tt)
 
-play_found : (f : File) (p : Play) (rest : List ℕ) → Ready f 4 → play_of (play_bytes p ++ rest) ≡ good (play p, 44)
+play_found : (f : File) (p : Play) (rest : List ℕ) → Ready f play_rank → play_of (play_bytes p ++ rest) ≡ good (play p, 44)
     → record_of (play_bytes p ++ rest) (counts_of f) ≡ good (play p, 44)
 unfolding body_of counts_of
 play_found f p rest r e =
     record_good (play_bytes p ++ rest) (counts_of f) PL (play p) 44 (play-two p rest) (play_mark p rest)
-    (in_order_lem f.last 4 (lit< tt) r.begun r.early) refl e (let h = r.low in omega (arith, h))
+    (follows_lem f.last play_rank r.begun r.early) refl e (let h = r.low in omega (arith, h))
 
 plays_step : (f : File) (p : Play) (l : List Play) (rest : List ℕ) → PlaysNext f (p ∷ l)
     → (record_of (play_bytes p ++ rest) (counts_of f) ≡ good (play p, 44)) × PlaysNext (with_record f (play p, 44)) l
@@ -323,7 +327,7 @@ breaks_next : (m : Map) → MapWithin m → BreaksNext (with_record nothing_read
 unfolding with_record bonus
 breaks_next m w = record { ready = record { begun = lit< tt; early = omega arith; low = omega arith }; room = (let h = w.few_breaks in omega (arith, h)); within = w.breaks }
 
-objects_next : (m : Map) → MapWithin m → (f : File) → f.map ≡ record { settings = m.settings; breaks = m.breaks; objects = [] } → Ready f 2 → ObjectsNext f m.objects
+objects_next : (m : Map) → MapWithin m → (f : File) → f.map ≡ record { settings = m.settings; breaks = m.breaks; objects = [] } → Ready f break_rank → ObjectsNext f m.objects
 unfolding bonus
 objects_next m w f e r =
     let none_read : length f.map.objects ≡ 0 = ap (λ k. length k.objects) e in
@@ -339,10 +343,10 @@ objects_next m w f e r =
     }
 
 -- plays may follow objects
-ready_on : (f : File) → Ready f 3 → Ready f 4
+ready_on : (f : File) → Ready f object_rank → Ready f play_rank
 ready_on f r = let early = r.early in record { begun = r.begun; early = omega (arith, early); low = r.low }
 
-plays_next : (f : File) (ps : List Play) → Ready f 3 → Each PlayWithin ps → PlaysNext f ps
+plays_next : (f : File) (ps : List Play) → Ready f object_rank → Each PlayWithin ps → PlaysNext f ps
 plays_next f ps r w = record { ready = ready_on f r; within = w }
 
 last-run : {s : List ℕ} {f : File} {rest : List ℕ} → Run s f rest → Run s f (rest ++ [])
@@ -358,18 +362,17 @@ unfolding with_record
 header-plays m = refl
 
 -- at the end of the input
-whole : (s : List ℕ) (f : File) → Run s f [] → Ready f 4 → file_of s ≡ accepted f
+whole : (s : List ℕ) (f : File) → Run s f [] → Ready f play_rank → file_of s ≡ accepted f
 whole s f run r =
     let here = length-drop f.at s in
     let nothing : length (drop f.at s) ≡ 0 = ap length run.left in
-    let last : f.last ≡ 0 → ⊥ = λ e. (let h = r.begun in omega (arith, e, h)) in
-    on_end s f run.on (omega (arith, here, nothing)) ∙ simp (ne_eqb f.last 0 last)
+    on_end s f run.on (omega (arith, here, nothing)) ∙ simp (placed_some f.last r.begun)
 
 -- ---- the map's file, with anything behind it
 pub record MapRun (m : Map) (rest : List ℕ) : Type 0 where
   pub file : File
   pub run : Run (map_file m ++ rest) file rest
-  pub ready : Ready file 3
+  pub ready : Ready file object_rank
   pub map_back : file.map ≡ m
   pub no_plays : file.plays ≡ []
 
@@ -429,7 +432,7 @@ pub record RefusedBehind (m : Map) (n : Rule) (s : List ℕ) : Type 0 where
   pub no_plays : file.plays ≡ []
 
 refused_behind : (m : Map) (rest : List ℕ) (n : Rule) → MapWithin m → 0 < length rest
-    → ((f : File) → Ready f 3 → f.map ≡ m → record_of rest (counts_of f) ≡ refused n)
+    → ((f : File) → Ready f object_rank → f.map ≡ m → record_of rest (counts_of f) ≡ refused n)
     → RefusedBehind m n (map_file m ++ rest)
 refused_behind m rest n w some bad =
     let s = map_file m ++ rest in
@@ -451,13 +454,13 @@ record_over : (r : List ℕ) (c : Counts) (m : ℕ) (x : Content) (n : ℕ) → 
 unfolding record_of ◌>>=◌ ◌>>◌ refuse◌when◌
 record_over r c m x n two mark order room body high = simp (le-ltb _ _ two, mark, order, room, body, lt-ltb _ _ high)
 
-object_over : (f : File) (o : Object) (rest : List ℕ) → Ready f 3 → length f.map.objects < max_objects → max_bonus < bonus f.map.objects + kind_bonus o.kind → ObjectWithin o
+object_over : (f : File) (o : Object) (rest : List ℕ) → Ready f object_rank → length f.map.objects < max_objects → max_bonus < bonus f.map.objects + kind_bonus o.kind → ObjectWithin o
     → record_of (object_bytes o ++ rest) (counts_of f) ≡ refused BONUS
 unfolding counts_of
 object_over f o rest r room high w =
     let k = marked o rest w in
     record_over (object_bytes o ++ rest) (counts_of f) k.mark (object o) (object_size o) (two_bytes (object_bytes o) rest (object_two o)) k.there
-    (rw k.rank (in_order_lem f.last 3 (lit< tt) r.begun r.early)) (rw k.rank (lt-leb max_objects (length f.map.objects) room))
+    (rw k.rank (follows_lem f.last object_rank r.begun r.early)) (rw k.rank (lt-leb max_objects (length f.map.objects) room))
     (k.body ∙ k.back) high
 
 pub over_bonus_lem : (m : Map) (o : Object) (rest : List ℕ) → MapWithin m → ObjectWithin o → length m.objects < max_objects → max_bonus < bonus m.objects + kind_bonus o.kind
@@ -476,12 +479,12 @@ record_refused : (r : List ℕ) (c : Counts) (m : ℕ) (n : Rule) → 2 ≤ leng
 unfolding record_of ◌>>=◌ ◌>>◌ refuse◌when◌
 record_refused r c m n two mark order room body = simp (le-ltb _ _ two, mark, order, room, body)
 
-play_refused : (f : File) (p : Play) (rest : List ℕ) (n : Rule) → Ready f 4 → play_of (play_bytes p ++ rest) ≡ refused n
+play_refused : (f : File) (p : Play) (rest : List ℕ) (n : Rule) → Ready f play_rank → play_of (play_bytes p ++ rest) ≡ refused n
     → record_of (play_bytes p ++ rest) (counts_of f) ≡ refused n
 unfolding body_of counts_of
 play_refused f p rest n r e =
     record_refused (play_bytes p ++ rest) (counts_of f) PL n (play-two p rest) (play_mark p rest)
-    (in_order_lem f.last 4 (lit< tt) r.begun r.early) refl e
+    (follows_lem f.last play_rank r.begun r.early) refl e
 
 pub refused_play : (m : Map) (p : Play) (rest : List ℕ) (n : Rule) → MapWithin m → play_of (play_bytes p ++ rest) ≡ refused n
     → RefusedBehind m n (map_file m ++ (play_bytes p ++ rest))

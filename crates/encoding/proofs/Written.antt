@@ -15,11 +15,12 @@ use Rattle.numbers.specs.Words.{word_at, bytes_of}
 use Rattle.numbers.proofs.words.Laws.{Bytes, word_at_lt, bytes_of-word_at}
 use Rattle.rules.specs.Refusals.{good, CUT, COUNT, MARK, PLAY_FIELD, BONUS}
 use Rattle.rules.proofs.All.{All, none, that, all_bind, all_when, all_pick, all_out}
-use Rattle.play_state.specs.Play.{origin_of, score_of, origin_checked, score_checked, hitresults_of}
-use Rattle.records.specs.Fields.{timed, set, setting_of, setting_limit, rate_of, rate_limit, played}
+use Rattle.play_state.specs.Play.{origin_of, score_of, hitresults_of, played}
+use Rattle.records.specs.Fields.{ranged, setting_of, setting_limit, rate_of, rate_limit}
+use Rattle.records.specs.Marks.{MH, BR, CI, SL, SP, PL}
 use Rattle.records.specs.Objects.{Object}
-use Rattle.records.specs.Records.{Content, header, break, object, play, CI, SL, SP, circle_of, item_of, nested_of, slider_of, spinner_of, object_of, header_of, break_of, play_of}
-use Rattle.map_file.specs.Order.{MH, BR, PL, body_of, record_of}
+use Rattle.records.specs.Records.{Content, header, break, object, play, circle_of, item_of, nested_of, slider_of, spinner_of, object_of, header_of, break_of, play_of}
+use Rattle.map_file.specs.Order.{body_of, record_of}
 use Rattle.map_file.specs.declared.file.Counts.{Counts}
 use Rattle.encoding.specs.Encoding.{fields_of, circle_fields, slider_fields, spinner_fields, item_byte, nested_bytes, object_bytes, header_fields, break_fields, play_fields, origin_byte, present_byte, score_number, header_bytes, break_bytes, play_bytes}
 use Rattle.encoding.proofs.FieldBytes.{widths, double_within}
@@ -42,10 +43,10 @@ fields_are r b (f ∷ fs) at h s =
 
 -- ---- floats
 -- what holds of a float in its range
-pub timed_all : {P : Float → Type 0} (low high x : Float) → (le low x ≡ true → le x high ≡ true → P x) → All P (timed (double_within low high x))
-timed_all {P = P} low high x k = go (le low x) refl (le x high) refl
+pub ranged_all : {P : Float → Type 0} (low high x : Float) → (le low x ≡ true → le x high ≡ true → P x) → All P (ranged (double_within low high x))
+ranged_all {P = P} low high x k = go (le low x) refl (le x high) refl
   where
-    go : (p : Bool) → le low x ≡ p → (q : Bool) → le x high ≡ q → All P (timed (double_within low high x))
+    go : (p : Bool) → le low x ≡ p → (q : Bool) → le x high ≡ q → All P (ranged (double_within low high x))
     go true e true f = rw (e, f) (that (k e f))
     go true e false f = rw (e, f) none
     go false e q f = rw e none
@@ -56,16 +57,16 @@ number nan y e = absurd (subst (λ (b : Bool). T (not b)) e tt)
 number (inf s) y e = tt
 number (fin s m d) y e = tt
 
-bits_all : (low high : Float) (b : ℕ) → b < 256 ^ 8 → All (λ x. b ≡ to_bits binary64 x) (timed (double_within low high (of_bits binary64 b)))
-bits_all low high b h = timed_all low high (of_bits binary64 b) (λ _ f. sym (to_bits-of_bits binary64 b h (number (of_bits binary64 b) high f)))
+bits_all : (low high : Float) (b : ℕ) → b < 256 ^ 8 → All (λ x. b ≡ to_bits binary64 x) (ranged (double_within low high (of_bits binary64 b)))
+bits_all low high b h = ranged_all low high (of_bits binary64 b) (λ _ f. sym (to_bits-of_bits binary64 b h (number (of_bits binary64 b) high f)))
 
-single_bits : (b : ℕ) → b < 256 ^ 4 → All (λ x. b ≡ to_bits binary32 x) (set (setting_of b))
+single_bits : (b : ℕ) → b < 256 ^ 4 → All (λ x. b ≡ to_bits binary32 x) (ranged (setting_of b))
 single_bits b h = go (le (of_bits binary32 0) x) refl (le x setting_limit) refl
   where
     x : Float
     x = of_bits binary32 b
 
-    go : (p : Bool) → le (of_bits binary32 0) (of_bits binary32 b) ≡ p → (q : Bool) → le (of_bits binary32 b) setting_limit ≡ q → All (λ y. b ≡ to_bits binary32 y) (set (setting_of b))
+    go : (p : Bool) → le (of_bits binary32 0) (of_bits binary32 b) ≡ p → (q : Bool) → le (of_bits binary32 b) setting_limit ≡ q → All (λ y. b ≡ to_bits binary32 y) (ranged (setting_of b))
     go true e true f = rw (e, f) (that (sym (to_bits-of_bits binary32 b h (number (of_bits binary32 b) setting_limit f))))
     go true e false f = rw (e, f) none
     go false e q f = rw e none
@@ -79,20 +80,20 @@ rate_bits b h = go (lt (of_bits binary64 0) (of_bits binary64 b)) refl (le (of_b
     go false e q f = rw e none
 
 -- ---- the origin and the score of a play
-origin_is : (b : ℕ) → All (λ o. b ≡ origin_byte o) (origin_checked (origin_of b))
+origin_is : (b : ℕ) → All (λ o. b ≡ origin_byte o) (played (origin_of b))
 origin_is b = go (eqb b 0) refl (eqb b 1) refl (eqb b 2) refl
   where
-    go : (x : Bool) → eqb b 0 ≡ x → (y : Bool) → eqb b 1 ≡ y → (z : Bool) → eqb b 2 ≡ z → All (λ o. b ≡ origin_byte o) (origin_checked (origin_of b))
+    go : (x : Bool) → eqb b 0 ≡ x → (y : Bool) → eqb b 1 ≡ y → (z : Bool) → eqb b 2 ≡ z → All (λ o. b ≡ origin_byte o) (played (origin_of b))
     go true e y f z g = rw e (that (eqb-true b 0 e))
     go false e true f z g = rw (e, f) (that (eqb-true b 1 f))
     go false e false f true g = rw (e, f, g) (that (eqb-true b 2 g))
     go false e false f false g = rw (e, f, g) none
 
-score_is : (present n : ℕ) → All (λ s. (present ≡ present_byte s) × (n ≡ score_number s)) (score_checked (score_of present n))
+score_is : (present n : ℕ) → All (λ s. (present ≡ present_byte s) × (n ≡ score_number s)) (played (score_of present n))
 score_is present n = go (eqb present 1) refl (eqb present 0) refl (eqb n 0) refl
   where
     go : (x : Bool) → eqb present 1 ≡ x → (y : Bool) → eqb present 0 ≡ y → (z : Bool) → eqb n 0 ≡ z
-        → All (λ s. (present ≡ present_byte s) × (n ≡ score_number s)) (score_checked (score_of present n))
+        → All (λ s. (present ≡ present_byte s) × (n ≡ score_number s)) (played (score_of present n))
     go true e y f z g = rw e (that (eqb-true present 1 e, refl))
     go false e true f true g = rw (e, f, g) (that (eqb-true present 0 f, eqb-true n 0 g))
     go false e true f false g = rw (e, f, g) none
@@ -123,7 +124,7 @@ Written r f = take f.1 r ≡ record_bytes f.0
 
 module _ (r : List ℕ) (b : Bytes r) where
   double_all : (low high : Float) (at : ℕ)
-      → All (λ x. word_at r at 8 ≡ to_bits binary64 x) (timed (double_within low high (of_bits binary64 (word_at r at 8))))
+      → All (λ x. word_at r at 8 ≡ to_bits binary64 x) (ranged (double_within low high (of_bits binary64 (word_at r at 8))))
   double_all low high at = bits_all low high (word_at r at 8) (word_at_lt r at 8 b)
 
   circle_written : word_at r 0 2 ≡ CI → All (Written r) (circle_of r)
@@ -160,7 +161,7 @@ module _ (r : List ℕ) (b : Bytes r) where
       all_bind _ _ (double_all _ _ 2) (λ x e. all_bind _ _ (double_all _ _ 10) (λ y f.
       that (fields_are r b (break_fields (record { start_time = x; end_time = y })) 0 long (m, (e, (f, tt)))))))
 
-  single_all : (at : ℕ) → All (λ x. word_at r at 4 ≡ to_bits binary32 x) (set (setting_of (word_at r at 4)))
+  single_all : (at : ℕ) → All (λ x. word_at r at 4 ≡ to_bits binary32 x) (ranged (setting_of (word_at r at 4)))
   single_all at = single_bits (word_at r at 4) (word_at_lt r at 4 b)
 
   header_written : word_at r 0 2 ≡ MH → All (Written r) (header_of r)

@@ -3,9 +3,8 @@ use Rattle.std.specs.Prelude.{ℕ, ◌+◌, List, [], ◌∷◌, ◌++◌, lengt
 use Rattle.std.specs.Float.{binary32, binary64}
 use Rattle.std.specs.Float.Ieee.{to_bits}
 use Rattle.numbers.specs.Words.{bytes_of}
+use Rattle.records.specs.Marks.{MH, BR, CI, SL, SP, PL}
 use Rattle.records.specs.Objects.{Item, tick, repeat, Kind, circle, slider, spinner, Object}
-use Rattle.records.specs.Records.{CI, SL, SP}
-use Rattle.map_file.specs.Order.{MH, BR, PL}
 use Rattle.map_file.specs.File.{Map}
 use Rattle.records.specs.declared.beatmap.Settings.{Settings}
 use Rattle.records.specs.declared.beatmap.BreakPeriod.{BreakPeriod}

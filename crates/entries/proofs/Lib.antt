@@ -5,3 +5,4 @@ pub mod Accepted
 pub mod Scores
 pub mod Own
 pub mod Sound
+pub mod Checks

@@ -5,7 +5,7 @@ use mathlib.Core.Logic.{◌≢◌}
 use mathlib.Core.Bool.{Bool, true, false, cond, ◌&&◌, false≢true}
 use mathlib.Core.List.{List, [], ◌∷◌}
 use native.Mathlib.Omega.{arith}
-use native.Mathlib.Nat.{mul-le-mul, not-suc-le-zero, le_of_suc-le-suc, zero-lt-suc}
+use native.Mathlib.Nat.{add_comm, mul-le-mul, not-suc-le-zero, le_of_suc-le-suc, zero-lt-suc}
 use native.Mathlib.Decide.{ℕ_discrete}
 use lib.Dec.{leb, ltb, eqb, lit<, lit≤}
 use lib.ListN.{length, get_or}
@@ -152,70 +152,44 @@ pub sum_of_more : (n k : ℕ) (e : Entry) → n ≤ k → SumOf n e → SumOf k 
 unfolding SumOf
 sum_of_more n k e le h = (λ i lt. let x = h.0 i lt in omega (arith, x, le), let x = h.1 in omega (arith, x, le))
 
-pub sum_of-one : (e : Entry) → in_limits e ≡ true → SumOf (max_levels + 1) e
-sum_of-one e h = sum_of_more 1 (max_levels + 1) e (lit≤ tt) (sum_of_entry e h)
+pub sum_of_one : (e : Entry) → in_limits e ≡ true → SumOf (max_levels + 1) e
+sum_of_one e h = sum_of_more 1 (max_levels + 1) e (lit≤ tt) (sum_of_entry e h)
 
--- one entry more
-pub sum_of-joined : (n : ℕ) (a b : Entry) → n < 14 → SumOf n a → in_limits b ≡ true → SumOf (suc n) (joined a b)
-unfolding SumOf
-sum_of-joined n a b few ha hb = (at_each 3 first other, combo)
-  where
-    product : a.combo * b.object_count ≤ n * combo_limit * max_objects
-    product = mul-le-mul ha.1 (word_le b hb 0 (lit< tt))
+-- one entry more, in either order
+module _ (n : ℕ) (a b : Entry) (few : n < 14) (ha : SumOf n a) (hb : in_limits b ≡ true) where
+  first_low : (a.first_no_slider ≤ suc n * 2199023255552) × (b.first_no_slider ≤ suc n * 2199023255552)
+  unfolding SumOf
+  first_low =
+      let x : a.first_no_slider ≤ n * 2199023255552 = ha.0 3 (lit< tt) in
+      let y : b.first_no_slider ≤ 1 = word_le b hb 3 (lit< tt) in
+      (omega (arith, x), omega (arith, y))
 
-    first : (joined a b).first_no_slider ≤ suc n * 2199023255552
-    first =
-        let x = ha.0 3 (lit< tt) in
-        let y : b.first_no_slider ≤ 1 = word_le b hb 3 (lit< tt) in
-        first_most a b (suc n * 2199023255552) (omega (arith, x)) (omega (arith, y))
+  ordered : (x y : Entry) → ((i : ℕ) → get_or (words_of x) i 0 + get_or (words_of y) i 0 ≡ get_or (words_of a) i 0 + get_or (words_of b) i 0)
+      → x.combo * y.object_count ≤ n * combo_limit * max_objects
+      → (joined x y).first_no_slider ≤ suc n * 2199023255552
+      → SumOf (suc n) (joined x y)
+  unfolding SumOf
+  ordered x y both product first = (at_each 3 first other, combo)
+    where
+      other : (i : ℕ) → i < entry_words → i ≢ 3 → get_or (words_of (joined x y)) i 0 ≤ suc n * 2199023255552
+      other i lt ne = omega (arith, word_joined x y i lt ne, both i, ha.0 i lt, word_le b hb i lt, limit_most i, more_most x y i, product, few)
 
-    other : (i : ℕ) → i < entry_words → i ≢ 3 → get_or (words_of (joined a b)) i 0 ≤ suc n * 2199023255552
-    other i lt ne =
-        let w = word_joined a b i lt ne in
-        let x = ha.0 i lt in
-        let y = word_le b hb i lt in
-        let m = limit_most i in
-        let p = more_most a b i in
-        let q = product in
-        omega (arith, w, x, y, m, p, q, few)
+      combo : (joined x y).combo ≤ suc n * combo_limit
+      combo =
+          let w : (joined x y).combo ≡ x.combo + y.combo + 0 = word_joined x y 1 (lit< tt) (omega arith) in
+          let s : x.combo + y.combo ≡ a.combo + b.combo = both 1 in
+          let l : b.combo ≤ combo_limit = word_le b hb 1 (lit< tt) in
+          omega (arith, w, s, ha.1, l)
 
-    combo : (joined a b).combo ≤ suc n * combo_limit
-    combo =
-        let w : (joined a b).combo ≡ a.combo + b.combo + 0 = word_joined a b 1 (lit< tt) (omega arith) in
-        let x = ha.1 in
-        let y : b.combo ≤ combo_limit = word_le b hb 1 (lit< tt) in
-        omega (arith, w, x, y)
+  pub sum_of-joined : SumOf (suc n) (joined a b)
+  unfolding SumOf
+  sum_of-joined = ordered a b (λ i. refl) (mul-le-mul ha.1 (word_le b hb 0 (lit< tt))) (first_most a b _ first_low.0 first_low.1)
 
--- the same with the entry before the sum, whose count is a factor then
-pub sum_of_led : (n : ℕ) (a b : Entry) → n < 14 → SumOf n a → a.object_count ≤ n * max_objects → in_limits b ≡ true → SumOf (suc n) (joined b a)
-unfolding SumOf
-sum_of_led n a b few ha count hb = (at_each 3 first other, combo)
-  where
-    product : b.combo * a.object_count ≤ combo_limit * (n * max_objects)
-    product = mul-le-mul (word_le b hb 1 (lit< tt)) count
-
-    first : (joined b a).first_no_slider ≤ suc n * 2199023255552
-    first =
-        let x = ha.0 3 (lit< tt) in
-        let y : b.first_no_slider ≤ 1 = word_le b hb 3 (lit< tt) in
-        first_most b a (suc n * 2199023255552) (omega (arith, y)) (omega (arith, x))
-
-    other : (i : ℕ) → i < entry_words → i ≢ 3 → get_or (words_of (joined b a)) i 0 ≤ suc n * 2199023255552
-    other i lt ne =
-        let w = word_joined b a i lt ne in
-        let x = ha.0 i lt in
-        let y = word_le b hb i lt in
-        let m = limit_most i in
-        let p = more_most b a i in
-        let q = product in
-        omega (arith, w, x, y, m, p, q, few)
-
-    combo : (joined b a).combo ≤ suc n * combo_limit
-    combo =
-        let w : (joined b a).combo ≡ b.combo + a.combo + 0 = word_joined b a 1 (lit< tt) (omega arith) in
-        let x = ha.1 in
-        let y : b.combo ≤ combo_limit = word_le b hb 1 (lit< tt) in
-        omega (arith, w, x, y)
+  -- the sum's count is a factor then
+  pub sum_of_led : a.object_count ≤ n * max_objects → SumOf (suc n) (joined b a)
+  sum_of_led count =
+      let p = mul-le-mul (word_le b hb 1 (lit< tt)) count in
+      ordered b a (λ i. add_comm (get_or (words_of b) i 0) (get_or (words_of a) i 0)) (omega (arith, p)) (first_most b a _ first_low.1 first_low.0)
 
 -- each word's sum fits 64 bits
 pub record SumsFit (a b : Entry) : Type 0 where

@@ -1,6 +1,7 @@
 -- Document 01, "The board": the words of an entry, from the objects that it covers alone; the words of two neighbouring runs of objects; limits.
-use Rattle.std.specs.Prelude.{ℕ, ◌+◌, ◌*◌, ◌≤◌, ◌<◌, Bool, true, false, cond, ◌&&◌, List, [], ◌∷◌, leb, ltb, length, get_or}
+use Rattle.std.specs.Prelude.{ℕ, ◌+◌, ◌*◌, ◌≤◌, ◌<◌, Bool, true, false, cond, not, ◌&&◌, List, [], ◌∷◌, leb, ltb, length, get_or}
 use Rattle.rules.specs.Limits.{max_objects, combo_limit, max_bonus, max_combos_before}
+use Rattle.rules.specs.Refusals.{Checked, good, ◌>>◌, refuse◌when◌, BOARD}
 use Rattle.spinner.specs.Bonus.{legacy_of, standardised_of}
 use Rattle.records.specs.Objects.{Object, Kind, circle, slider, spinner, repeats, ticks, kind_bonus}
 use Rattle.records.specs.declared.hit_object.Slider.{Slider}
@@ -162,6 +163,12 @@ all_le t (x ∷ xs) (l ∷ ls) = all_le (t && leb x l) xs ls
 
 unfoldable pub in_limits : Entry → Bool
 in_limits e = all_le true (words_of e) limit_list
+
+-- "13: .. an entry's own words" as read are outside them
+unfoldable pub checked : Entry → Checked Entry
+checked e = do
+  refuse BOARD when not (in_limits e)
+  good e
 
 -- what n entries within the limits add up to, for n up to 14
 unfoldable pub SumOf : ℕ → Entry → Type 0

@@ -2,9 +2,11 @@
 ghost use Rattle.std.specs.Prelude.{◌≡◌, true, cond, ◌+◌, ◌*◌, ◌≤◌};
 ghost use Rattle.rules.specs.Limits.{max_levels, max_nested, max_objects};
 ghost use Rattle.simulator.specs.Limits.{nested_count};
-ghost use Rattle.entries.specs.Entry.{none, summed, joined, first_of, in_limits, SumOf, entry_with, own_entry};
+ghost use Rattle.entries.specs.Entry.{none, summed, joined, in_limits, checked, SumOf, entry_with, own_entry};
 
+use crate::checked::CheckedEntry;
 use records::hit_object::{HitObject, HitObjectKind, Slider};
+use rules::refusal::Rule;
 use simulator::legacy_score::NestedScorePerObject;
 use simulator::legacy_score_simulator::OsuLegacyScoreSimulator;
 
@@ -24,13 +26,6 @@ pub struct Entry {
     pub n_repeats: u64,
     pub n_ticks: u64,
     pub spinner_score: u64,
-}
-
-// The first that is there: b where a has no object.
-fn first(count: u64, a: u64, b: u64) -> u64
-    ensures { result ≡ first_of count a b }
-{
-    if 0 < count { a } else { b }
 }
 
 fn choose(on: bool, yes: u64, no: u64) -> u64
@@ -125,12 +120,24 @@ impl Entry {
             & (self.spinner_score <= Entry::MAX_SCORE)
     }
 
-    // The sums of both, with the two words that hang on their order.
+    // An entry as read, whose words are checked.
+    #[tactic(auto, using(rules::proofs::Steps::steps), unfolding(crate::specs::Entry::checked))]
+    pub fn checked(self) -> Result<CheckedEntry, Rule>
+        ensures { result ≡ checked self }
+    {
+        if !self.within() {
+            return Err(Rule::Board);
+        }
+        Ok(CheckedEntry { entry: self })
+    }
+
+    // The sums of both, with the two words that hang on their order. No type says of how many entries self is a sum: each join makes one more.
     #[tactic(auto, using(crate::proofs::Limits::sums_fit))]
-    fn sum(self, b: Entry, combos_before: u64, first_no_slider: u64) -> Self
-        requires { SumOf (max_levels + 1) self × (in_limits b ≡ true) }
+    fn sum(self, b: CheckedEntry, combos_before: u64, first_no_slider: u64) -> Self
+        requires { SumOf (max_levels + 1) self }
         ensures { result ≡ summed self b combos_before first_no_slider }
     {
+        let b = b.entry;
         Entry {
             object_count: self.object_count + b.object_count,
             combo: self.combo + b.combo,
@@ -150,32 +157,38 @@ impl Entry {
 
     // That of the objects of self, then those of b. Sums of a few entries leave room, so that they can be checked later.
     #[tactic(auto, using(crate::proofs::Limits::sums_fit, crate::proofs::Limits::product_fits, crate::proofs::Limits::combos_fit), unfolding(crate::specs::Entry::joined))]
-    pub fn join(self, b: Entry) -> Self
-        requires { SumOf (max_levels + 1) self × (in_limits b ≡ true) }
+    pub fn join(self, b: CheckedEntry) -> Self
+        requires { SumOf (max_levels + 1) self }
         ensures { result ≡ joined self b }
     {
+        let behind = b.entry;
         self.sum(
             b,
-            self.combos_before + b.combos_before + self.combo * b.object_count,
-            first(self.object_count, self.first_no_slider, b.first_no_slider),
+            self.combos_before + behind.combos_before + self.combo * behind.object_count,
+            choose(
+                0 < self.object_count,
+                self.first_no_slider,
+                behind.first_no_slider,
+            ),
         )
     }
 
     // The same, or that of the objects of b and then those of self: the factors are chosen, so that a way up the tree takes no branch for its side.
-    #[tactic(auto, using(crate::proofs::Limits::sums_fit, crate::proofs::Limits::chosen_product, crate::proofs::Limits::chosen_combos, crate::proofs::Runs::joined_at))]
-    pub fn join_at(self, b: Entry, leads: bool) -> Self
-        requires { SumOf (max_levels + 1) self × (self.object_count ≤ (max_levels + 1) * max_objects) × (in_limits b ≡ true) }
+    #[tactic(auto, using(crate::proofs::Limits::sums_fit, crate::proofs::Limits::chosen_product, crate::proofs::Limits::chosen_combos))]
+    pub fn join_at(self, b: CheckedEntry, leads: bool) -> Self
+        requires { SumOf (max_levels + 1) self × (self.object_count ≤ (max_levels + 1) * max_objects) }
         ensures { result ≡ cond leads (joined self b) (joined b self) }
     {
-        let combo = choose(leads, self.combo, b.combo);
-        let count = choose(leads, b.object_count, self.object_count);
-        let first_count = choose(leads, self.object_count, b.object_count);
-        let first_there = choose(leads, self.first_no_slider, b.first_no_slider);
-        let first_behind = choose(leads, b.first_no_slider, self.first_no_slider);
+        let other = b.entry;
+        let combo = choose(leads, self.combo, other.combo);
+        let count = choose(leads, other.object_count, self.object_count);
+        let first_count = choose(leads, self.object_count, other.object_count);
+        let first_there = choose(leads, self.first_no_slider, other.first_no_slider);
+        let first_behind = choose(leads, other.first_no_slider, self.first_no_slider);
         self.sum(
             b,
-            self.combos_before + b.combos_before + combo * count,
-            first(first_count, first_there, first_behind),
+            self.combos_before + other.combos_before + combo * count,
+            choose(0 < first_count, first_there, first_behind),
         )
     }
 }

@@ -1,4 +1,4 @@
-// Entries as words of a lent slice.
+// Entries as words of a lent slice. Each bound is that of its own entry: a board with the length in its type would leave as many clauses, on the entries.
 ghost use Rattle.std.specs.Prelude.{◌≡◌, ◌+◌, ◌*◌, ◌≤◌, length};
 ghost use Rattle.entries.specs.Entry.{entry_words};
 ghost use Rattle.entries.specs.Words.{entry_at, put_entry};

@@ -9,12 +9,11 @@ use miss_calc::legacy_score_miss_calc::{
     OsuLegacyScoreMissCalculator, cap_slider_breaks, full_combo_threshold,
 };
 use numbers::minmax::{max, min};
-use numbers::rounding::float;
 use play_state::{OsuHitResults, OsuScoreOrigin, Play};
 use simulator::attributes::OsuDifficultyAttributes;
 
 // What a play is told: "Play: index, accuracy, combo-based, score-based (`-` if absent), effective".
-#[derive(Clone, Copy)]
+#[derive(Clone, Copy, Default)]
 pub struct Estimates {
     pub accuracy: f64,
     pub combo_based: f64,
@@ -55,17 +54,17 @@ fn lazer_miss_count(play: Play, attrs: OsuDifficultyAttributes) -> f64
     let large_tick_misses = large_ticks(attrs).saturating_sub(u64::from(hits.large_tick_hits));
     let threshold = f64::from(attrs.max_combo.saturating_sub(slider_ends_dropped));
     let broken = broken_miss_count(threshold, play.max_combo, hits.misses);
-    min(broken, float(large_tick_misses + u64::from(hits.misses)))
+    min(broken, (large_tick_misses + u64::from(hits.misses)) as f64)
 }
 
 // Origins 0 and 2 use classic slider accuracy.
 pub fn is_classic(origin: OsuScoreOrigin) -> bool
     ensures { result ≡ is_classic_of origin }
 {
-    match origin {
-        OsuScoreOrigin::Stable | OsuScoreOrigin::WithoutSliderAcc => true,
-        OsuScoreOrigin::WithSliderAcc => false,
-    }
+    matches!(
+        origin,
+        OsuScoreOrigin::Stable | OsuScoreOrigin::WithoutSliderAcc
+    )
 }
 
 #[tactic(auto, unfolding(crate::specs::ComboBased::combo_based_of))]
@@ -127,9 +126,7 @@ pub fn calculate(play: Play, attrs: OsuDifficultyAttributes) -> Estimates
     if total_hits(hits) == 0 {
         return Estimates {
             accuracy: acc,
-            combo_based: 0.0,
-            score_based: None,
-            effective: 0.0,
+            ..Estimates::default()
         };
     }
     let combo_based = calculate_combo_based_estimated_miss_count(play, attrs);

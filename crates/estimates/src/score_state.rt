@@ -1,26 +1,17 @@
 // `OsuHitResults::accuracy`.
 ghost use Rattle.std.specs.Prelude.{◌≡◌, ◌≤◌};
-ghost use Rattle.estimates.specs.Accuracy.{abs_of, quotient_of, weighted, heaviest, large_ticks, accuracy_of, with_slider_acc, without_slider_acc};
+ghost use Rattle.estimates.specs.Accuracy.{quotient_of, weighted, heaviest, large_ticks, accuracy_of, with_slider_acc, without_slider_acc};
 
 use miss_calc::counts::total_hits;
-use numbers::rounding::float;
 use play_state::{OsuHitResults, OsuScoreOrigin};
 use simulator::attributes::OsuDifficultyAttributes;
 
-#[tactic(auto, unfolding(crate::specs::Accuracy::abs_of, numbers::proofs::Literals::of_bits, numbers::proofs::Literals::of_int, numbers::proofs::Literals::round))]
-fn abs(x: f64) -> f64
-    ensures { result ≡ abs_of x }
-{
-    if x < 0.0 { -x } else { x }
-}
-
 // The quotient, and 0 where the denominator is as good as 0.
-#[tactic(auto, unfolding(crate::specs::Accuracy::quotient_of, numbers::proofs::Literals::of_bits, numbers::proofs::Literals::of_int, numbers::proofs::Literals::round))]
+#[tactic(auto, using(crate::proofs::Epsilon::at_epsilon), unfolding(crate::specs::Accuracy::quotient_of, numbers::proofs::Literals::of_bits, numbers::proofs::Literals::of_int, numbers::proofs::Literals::round))]
 fn quotient(numerator: f64, denominator: f64) -> f64
     ensures { result ≡ quotient_of numerator denominator }
 {
-    let distance = abs(denominator - 0.0);
-    if distance <= 1.0 / 4503599627370496.0 {
+    if (denominator - 0.0).abs() <= f64::EPSILON {
         0.0
     } else {
         numerator / denominator
@@ -58,8 +49,8 @@ fn with_slider_acc(h: OsuHitResults, attrs: OsuDifficultyAttributes) -> f64
     let slider_end_hits = u64::from(h.slider_end_hits).min(max_slider_ends);
     let large_tick_hits = u64::from(h.large_tick_hits).min(max_large_ticks);
     quotient(
-        weight(h) + (float(3 * slider_end_hits) + 0.6 * float(large_tick_hits)),
-        full_weight(h) + (float(3 * max_slider_ends) + 0.6 * float(max_large_ticks)),
+        weight(h) + ((3 * slider_end_hits) as f64 + 0.6 * large_tick_hits as f64),
+        full_weight(h) + ((3 * max_slider_ends) as f64 + 0.6 * max_large_ticks as f64),
     )
 }
 
@@ -72,8 +63,8 @@ fn without_slider_acc(h: OsuHitResults, attrs: OsuDifficultyAttributes) -> f64
     let large_tick_hits = u64::from(h.large_tick_hits).min(max_large_ticks);
     let small_tick_hits = h.small_tick_hits.min(max_small_ticks);
     quotient(
-        weight(h) + (0.6 * float(large_tick_hits) + 0.2 * f64::from(small_tick_hits)),
-        full_weight(h) + (0.6 * float(max_large_ticks) + 0.2 * f64::from(max_small_ticks)),
+        weight(h) + (0.6 * large_tick_hits as f64 + 0.2 * f64::from(small_tick_hits)),
+        full_weight(h) + (0.6 * max_large_ticks as f64 + 0.2 * f64::from(max_small_ticks)),
     )
 }
 
@@ -81,6 +72,7 @@ fn without_slider_acc(h: OsuHitResults, attrs: OsuDifficultyAttributes) -> f64
 pub fn accuracy(h: OsuHitResults, origin: OsuScoreOrigin, attrs: OsuDifficultyAttributes) -> f64
     ensures { result ≡ accuracy_of h origin attrs }
 {
+    // The two share one line: their sums stand in another order, with other weights.
     match origin {
         OsuScoreOrigin::Stable => quotient(weight(h), full_weight(h)),
         OsuScoreOrigin::WithSliderAcc => with_slider_acc(h, attrs),

@@ -5,8 +5,6 @@ ghost use Rattle.std.specs.Prelude.{◌≡◌};
 ghost use Rattle.numbers.specs.Floats.{whole};
 ghost use Rattle.exponential.specs.Exp.{series_of, squared, exp_of};
 
-use numbers::rounding::float;
-
 const TERMS: u64 = 8;
 
 const SQUARINGS: u64 = 10;
@@ -17,7 +15,7 @@ fn series(y: f64) -> f64
 {
     let mut h = 1.0;
     for j in (1..=TERMS).rev() {
-        h = 1.0 + y / float(j) * h;
+        h = 1.0 + y / j as f64 * h;
     }
     h
 }

@@ -1,14 +1,14 @@
 -- What a host may rely on, from the one equation of a heat: which heats are refused and with what number, what a refused one leaves, and what each outcome
 -- is. Assumes nothing.
-use Prim.Native.Nat.{ℕ, zero, suc, ◌≤◌, ◌<◌}
-use native.Mathlib.Nat.{le_of_suc-le-suc}
+use Prim.Native.Nat.{ℕ, ◌≤◌, ◌<◌, ◌-◌}
 use native.Mathlib.Omega.{arith}
 use mathlib.Core.Path.{◌≡◌, refl, ap, ◌∙◌}
 use mathlib.Core.Bool.{Bool, true, false, ◌||◌}
-use mathlib.Core.List.{List, [], ◌∷◌, map, ◌++◌}
+use mathlib.Core.List.{List, map, ◌++◌}
 use lib.ListN.{length, drop, get_or}
 use lib.Dec.{ltb}
 use borrow.Author.Tests.{lt-ltb, le-ltb}
+use Rattle.std.proofs.lemmas.List.{length-map, get_or-map, get_or_append_left, get_or-append_right, get_or-drop}
 use Rattle.rules.specs.Refusals.{Checked, refused, good, pick, HEAT, OrRefusal, refusal_at, at_0, number_of}
 use Rattle.rules.specs.declared.refusal.Rule.{Rule}
 use Rattle.rules.proofs.Numbers.{number_above_0}
@@ -30,16 +30,12 @@ use Rattle.heat.proofs.Loop.{Fits, fits}
 
 -- ---- a list's images in front of what is left of another
 front_at : {A B : Type 0} (f : A → B) (ps : List A) (os : List B) (i : ℕ) (d : A) (e : B) → i < length ps → get_or (map f ps ++ os) i e ≡ f (get_or ps i d)
-front_at f [] os i d e l = absurd (omega (arith, l))
-front_at f (p ∷ ps) os zero d e l = refl
-front_at f (p ∷ ps) os (suc i) d e l = front_at f ps os i d e (le_of_suc-le-suc l)
+front_at f ps os i d e l = get_or_append_left (map f ps) os e i (rw length-map l) ∙ get_or-map f ps i d e l
 
-front_beyond : {A B : Type 0} (f : A → B) (ps : List A) (os : List B) (i : ℕ) (e : B) → length ps ≤ length os → length ps ≤ i
-    → get_or (map f ps ++ drop (length ps) os) i e ≡ get_or os i e
-front_beyond f [] os i e h l = refl
-front_beyond f (p ∷ ps) [] i e h l = absurd (omega (arith, h))
-front_beyond f (p ∷ ps) (o ∷ os) zero e h l = absurd (omega (arith, l))
-front_beyond f (p ∷ ps) (o ∷ os) (suc i) e h l = front_beyond f ps os i e (le_of_suc-le-suc h) (le_of_suc-le-suc l)
+front_beyond : {A B : Type 0} (f : A → B) (ps : List A) (os : List B) (i : ℕ) (e : B) → length ps ≤ i → get_or (map f ps ++ drop (length ps) os) i e ≡ get_or os i e
+front_beyond f ps os i e l =
+    get_or-append_right (map f ps) (drop (length ps) os) (length ps) i e (length-map ps f) l
+    ∙ get_or-drop (length ps) os (i - length ps) e ∙ ap (λ (k : ℕ). get_or os k e) (omega (arith, l))
 
 -- ---- the status of a heat: none, a rule of the file, or 15
 pub data HeatNumber : ℕ → Type 0 where
@@ -141,4 +137,4 @@ module _ (s : List ℕ) (ps : List HostPlay) (os : List PlayAnswer) where
 
     -- "outcomes beyond the last play stay"
     pub outcomes_beyond_stay : (i : ℕ) (o : PlayAnswer) → length ps ≤ i → get_or left.1 i o ≡ get_or os i o
-    outcomes_beyond_stay i o l = ap (λ (l : List PlayAnswer). get_or l i o) left_is ∙ front_beyond (single_of x) ps os i o good_heat_fits.1 l
+    outcomes_beyond_stay i o l = ap (λ (l : List PlayAnswer). get_or l i o) left_is ∙ front_beyond (single_of x) ps os i o l

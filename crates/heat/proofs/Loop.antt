@@ -5,8 +5,8 @@ use Prim.Native.Nat.{ℕ, ◌+◌, ◌≤◌, ◌<◌}
 use native.Mathlib.Omega.{arith}
 use native.Mathlib.Nat.{zero-add, le_antisymm}
 use mathlib.Core.Bool.{Bool, true, false, ◌||◌}
-use mathlib.Core.List.{List}
-use lib.ListN.{length, take, set, get_or}
+use mathlib.Core.List.{List, map, ◌++◌}
+use lib.ListN.{length, take, drop, set, get_or}
 use lib.Seq.{take_all}
 use lib.Dec.{ltb}
 use borrow.Author.Tests.{ltb-false}
@@ -28,7 +28,7 @@ use Rattle.host.specs.declared.answer.PlayAnswer.{PlayAnswer}
 use Rattle.host.specs.declared.play.HostPlay.{HostPlay}
 use Rattle.host.specs.declared.status.Status.{Status}
 use Rattle.heat.specs.Heat.{counts_bad, start_by, start_of, heat_status_of, due_of, passed_of, score_by, one_of, outcomes_of, heat_of}
-use Rattle.heat.proofs.Front.{over, over_none, over_next, over_length, over_all}
+use Rattle.heat.proofs.Front.{front_more}
 
 -- ---- a heat that is not refused has at most 64 plays, and an outcome for each
 abbrev pub IsReady : OrRefusal ScoreAttributes → Type 0
@@ -108,18 +108,15 @@ module _ (n k i : ℕ) (p : HostPlay) where
 -- ---- the loop, on the lists that it is lent
 -- the outcomes behind the first i plays
 pub outcomes_after : Outcome Scores → List HostPlay → List PlayAnswer → ℕ → List PlayAnswer
-outcomes_after x ps os i = over (single_of x) (take i ps) os
+outcomes_after x ps os i = map (single_of x) (take i ps) ++ drop i os
 
 pub none_yet : (x : Outcome Scores) (ps : List HostPlay) (os : List PlayAnswer) → os ≡ outcomes_after x ps os 0
 unfolding outcomes_after
-none_yet x ps os = over_none (single_of x) ps os
+none_yet x ps os = refl
 
-pub same_length : (x : Outcome Scores) (ps : List HostPlay) (os : List PlayAnswer) (i : ℕ) (now : List PlayAnswer) → now ≡ outcomes_after x ps os i → length now ≡ length os
-unfolding outcomes_after
-same_length x ps os i now e = ap length e ∙ over_length (single_of x) (take i ps) os
-
--- from a start that is the heat's
-module _ (f : Result) (ps : List HostPlay) (os : List PlayAnswer) (s : OrRefusal ScoreAttributes) (is : s ≡ start_of (scores_of f) (length ps) (length os)) where
+-- from a start that is the heat's, with d plays that are due
+module _ (f : Result) (ps : List HostPlay) (os : List PlayAnswer) (s : OrRefusal ScoreAttributes) (is : s ≡ start_of (scores_of f) (length ps) (length os))
+    (d : ℕ) (due : d ≡ due_of s (length ps)) where
   abbrev x : Outcome Scores
   x = scores_of f
 
@@ -127,8 +124,8 @@ module _ (f : Result) (ps : List HostPlay) (os : List PlayAnswer) (s : OrRefusal
   room = subst (λ (t : OrRefusal ScoreAttributes). Fits t (length ps) (length os)) (sym is) (fits x (length ps) (length os))
 
   -- each play that is due is there, and has an outcome
-  pub due_fits : (d : ℕ) → d ≡ due_of s (length ps) → (d ≤ max_plays) × (d ≤ length ps) × (d ≤ length os)
-  due_fits d e = go s e room
+  pub due_fits : (d ≤ max_plays) × (d ≤ length ps) × (d ≤ length os)
+  due_fits = go s due room
     where
       go : (t : OrRefusal ScoreAttributes) → d ≡ due_of t (length ps) → Fits t (length ps) (length os) → (d ≤ max_plays) × (d ≤ length ps) × (d ≤ length os)
       go (good all) e f =
@@ -137,22 +134,25 @@ module _ (f : Result) (ps : List HostPlay) (os : List PlayAnswer) (s : OrRefusal
       go (refused r) e f = (omega (arith, e), omega (arith, e), omega (arith, e))
 
   -- a turn: the next play's answer in its outcome
-  pub one_more : (i : ℕ) (d : HostPlay) (now : List PlayAnswer) (answer : PlayAnswer) → i < due_of s (length ps) → i < length ps → now ≡ outcomes_after x ps os i
-      → answer ≡ one_of f s (get_or ps i d) → set now i answer ≡ outcomes_after x ps os (i + 1)
+  pub one_more : (i : ℕ) (p : HostPlay) (now : List PlayAnswer) (answer : PlayAnswer) → i < d → now ≡ outcomes_after x ps os i
+      → answer ≡ one_of f s (get_or ps i p) → set now i answer ≡ outcomes_after x ps os (i + 1)
   unfolding outcomes_after
-  one_more i d now answer due in-plays e a =
-      let p : HostPlay = get_or ps i d in
-      let single : answer ≡ single_of x p = a ∙ ap (λ (t : OrRefusal ScoreAttributes). one_of f t p) is ∙ one_is (length ps) (length os) i p f (subst (λ (t : OrRefusal ScoreAttributes). i < due_of t (length ps)) is due) in
-      ap (λ (y : PlayAnswer). set now i y) single ∙ ap (λ (y : List PlayAnswer). set y i (single_of x p)) e ∙ over_next (single_of x) d i ps os in-plays
+  one_more i p now answer l e a =
+      let play : HostPlay = get_or ps i p in
+      let within : i < due_of (start_of x (length ps) (length os)) (length ps) = subst (λ (t : OrRefusal ScoreAttributes). i < due_of t (length ps)) is (rw due at l) in
+      let single : answer ≡ single_of x play = a ∙ ap (λ (t : OrRefusal ScoreAttributes). one_of f t play) is ∙ one_is (length ps) (length os) i play f within in
+      ap (λ (y : PlayAnswer). set now i y) single ∙ ap (λ (y : List PlayAnswer). set y i (single_of x play)) e
+      ∙ front_more (single_of x) p i ps os (omega (arith, l, due_fits)) (omega (arith, l, due_fits))
 
   -- behind the last play that is due the outcomes are those that a heat leaves
-  pub all_done : (d i : ℕ) (now : List PlayAnswer) (status : Status) → d ≡ due_of s (length ps) → i ≤ d → d ≤ i → now ≡ outcomes_after x ps os i
-      → status ≡ heat_status_of s → (status, now) ≡ heat_of x ps os
+  pub all_done : (i : ℕ) (now : List PlayAnswer) (status : Status) → i ≤ d → d ≤ i → now ≡ outcomes_after x ps os i → status ≡ heat_status_of s
+      → (status, now) ≡ heat_of x ps os
   unfolding outcomes_after heat_of
-  all_done d i now status e most least a b =
-      let last : i ≡ due_of s (length ps) = le_antisymm most least ∙ e in
-      ap₂ (λ (t : Status) (y : List PlayAnswer). (t, y)) (b ∙ ap heat_status_of is) (a ∙ ap (λ (k : ℕ). over (single_of x) (take k ps) os) last ∙ left s room ∙ ap (λ (t : OrRefusal ScoreAttributes). outcomes_of t x ps os) is)
+  all_done i now status most least a b =
+      let last : i ≡ due_of s (length ps) = le_antisymm most least ∙ due in
+      ap₂ (λ (t : Status) (y : List PlayAnswer). (t, y)) (b ∙ ap heat_status_of is)
+      (a ∙ ap (λ (k : ℕ). map (single_of x) (take k ps) ++ drop k os) last ∙ left s ∙ ap (λ (t : OrRefusal ScoreAttributes). outcomes_of t x ps os) is)
     where
-      left : (t : OrRefusal ScoreAttributes) → Fits t (length ps) (length os) → over (single_of x) (take (due_of t (length ps)) ps) os ≡ outcomes_of t x ps os
-      left (good all) f = over_all (single_of x) ps os (f tt).1
-      left (refused r) f = sym (over_none (single_of x) ps os)
+      left : (t : OrRefusal ScoreAttributes) → map (single_of x) (take (due_of t (length ps)) ps) ++ drop (due_of t (length ps)) os ≡ outcomes_of t x ps os
+      left (good all) = ap (λ (t : List HostPlay). map (single_of x) t ++ drop (length ps) os) (take_all (length ps) ps (omega arith))
+      left (refused r) = refl

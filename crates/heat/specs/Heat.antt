@@ -2,7 +2,7 @@
 -- outcomes, and gets for each play what a single call without factors gives, its refusal included, with offset 0; outcomes beyond the last play stay."
 use Rattle.std.specs.Prelude.{ℕ, Bool, ◌||◌, List, map, ◌++◌, length, drop, ltb}
 use Rattle.rules.specs.Limits.{max_plays}
-use Rattle.rules.specs.Refusals.{OrRefusal, good, refused, refusal_at, at_0, number_of, pick, HEAT}
+use Rattle.rules.specs.Refusals.{OrRefusal, good, refused, refusal_at, at_0, pick, HEAT}
 use Rattle.play_state.specs.declared.Play.{Play}
 use Rattle.map_file.specs.File.{Result}
 use Rattle.simulator.specs.declared.attributes.ScoreAttributes.{ScoreAttributes}
@@ -11,9 +11,10 @@ use Rattle.play_score.specs.PlayRules.{given_score}
 use Rattle.play_score.specs.declared.PlayScore.{PlayScore}
 use Rattle.scoring.specs.Scores.{Outcome, Scores, map_score_of}
 use Rattle.host.specs.Play.{play_in}
-use Rattle.host.specs.Answer.{play_answer_refused, given_answer_of, single_of}
+use Rattle.host.specs.Answer.{given_answer_of, single_of}
 use Rattle.host.specs.declared.answer.PlayAnswer.{PlayAnswer}
 use Rattle.host.specs.declared.play.HostPlay.{HostPlay}
+use Rattle.host.specs.Status.{status_of}
 use Rattle.host.specs.declared.status.Status.{Status}
 
 -- "15: more than 64 plays, or fewer outcomes than plays"
@@ -28,10 +29,9 @@ start_by (good all) plays outcomes = pick (counts_bad plays outcomes) (refused (
 abbrev pub start_of : Outcome Scores → ℕ → ℕ → OrRefusal ScoreAttributes
 start_of x plays outcomes = start_by (map_score_of x) plays outcomes
 
--- of the call: 0, or the number of its refusal and the offset. A refused play is no refused call
+-- of the call: a refused play is no refused call
 abbrev pub heat_status_of : OrRefusal ScoreAttributes → Status
-heat_status_of (good all) = record { status = 0; offset = 0 }
-heat_status_of (refused r) = record { status = number_of r.rule; offset = r.offset }
+heat_status_of = status_of
 
 -- "for each play what a single call without factors gives, its refusal included": `single_of`, the answer of `pjp_score_play`; "outcomes beyond the last play stay", and where the call is refused all of them do
 abbrev pub outcomes_of : OrRefusal ScoreAttributes → Outcome Scores → List HostPlay → List PlayAnswer → List PlayAnswer
@@ -57,6 +57,9 @@ abbrev pub score_by : Play → OrRefusal ScoreAttributes → OrRefusal PlayScore
 score_by p (refused r) = refused r
 score_by p (good a) = at_0 (given_score p a)
 
+abbrev pub score_one : Result → OrRefusal ScoreAttributes → Play → OrRefusal PlayScore
+score_one f (refused r) p = refused r
+score_one f (good all) p = score_by p (passed_of f all p.passed_objects)
+
 abbrev pub one_of : Result → OrRefusal ScoreAttributes → HostPlay → PlayAnswer
-one_of f (good all) p = given_answer_of (score_by (play_in p) (passed_of f all (play_in p).passed_objects))
-one_of f (refused r) p = play_answer_refused r
+one_of f start p = given_answer_of (score_one f start (play_in p))

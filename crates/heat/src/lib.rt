@@ -5,7 +5,7 @@
 ghost use Rattle.std.specs.Prelude.{◌≡◌};
 ghost use Rattle.map_file.specs.File.{file_of};
 ghost use Rattle.scoring.specs.Scores.{scores_of};
-ghost use Rattle.heat.specs.Heat.{counts_bad, start_of, due_of, heat_status_of, passed_of, score_by, one_of};
+ghost use Rattle.heat.specs.Heat.{counts_bad, start_of, due_of, heat_status_of, passed_of, score_one, one_of};
 
 use host::answer::PlayAnswer;
 use host::play::HostPlay;
@@ -62,24 +62,18 @@ fn passed_of(file: &[u8], all: ScoreAttributes, passed: u64) -> Result<ScoreAttr
     simulate(file, passed)
 }
 
-// A play from there on goes the single call's way.
-fn score_by(play: Play, passed: Result<ScoreAttributes, Refusal>) -> Result<PlayScore, Refusal>
-    ensures { result ≡ score_by play passed }
+// The score of one play: from its passed objects on it goes the single call's way.
+fn score_one(file: &[u8], start: HeatStart, play: Play) -> Result<PlayScore, Refusal>
+    ensures { result ≡ score_one (file_of file.now) start play }
 {
-    let a = passed?;
-    Ok(score_given(play, a)?)
+    let all = start?;
+    let passed = passed_of(file, all, u64::from(play.passed_objects))?;
+    Ok(score_given(play, passed)?)
 }
 
 // The outcome of one play; of a refused call none is due.
 pub fn heat_one(file: &[u8], start: HeatStart, play: HostPlay) -> PlayAnswer
     ensures { result ≡ one_of (file_of file.now) start play }
 {
-    match start {
-        Err(refusal) => refusal.into(),
-        Ok(all) => {
-            let play = Play::from(play);
-            let passed = passed_of(file, all, play.passed_objects as u64);
-            score_by(play, passed).into()
-        }
-    }
+    score_one(file, start, play.into()).into()
 }

@@ -1,26 +1,19 @@
 -- What a call with factors answers from a host's answer is what it answers from the engine's, since no rule has the number of a good call, 0.
-use Prim.Native.Nat.{ℕ}
 use native.Mathlib.Omega.{arith}
 use mathlib.Core.Bool.{Bool, true, false}
-use mathlib.Core.List.{List}
 use mathlib.Core.Path.{◌≡◌, refl}
 use borrow.Author.Tests.{ne_eqb}
-use lib.Ieee.{Float}
-use Rattle.rules.specs.Refusals.{good, refused, pick, number_of, FACTOR, OrRefusal, refusal_at, at_0}
+use Rattle.rules.specs.Refusals.{good, refused, pick, number_of, FACTOR, OrRefusal, refusal_at}
 use Rattle.rules.proofs.Numbers.{number_above_0}
 use Rattle.play_state.specs.declared.Play.{Play}
-use Rattle.records.specs.declared.beatmap.Settings.{Settings}
-use Rattle.map_file.specs.File.{file_of}
 use Rattle.play_score.specs.declared.PlayScore.{PlayScore}
 use Rattle.slider_breaks.specs.SliderBreaks.{estimated_breaks}
 use Rattle.slider_breaks.specs.Given.{factors_bad, breaks_score, with_breaks}
 use Rattle.slider_breaks.specs.declared.calculator.SliderFactors.{SliderFactors}
-use Rattle.scoring.specs.Scores.{scores_of, given_play_of}
-use Rattle.board.specs.Read.{read_of}
 use Rattle.host.specs.Answer.{play_answer_in, given_answer_of}
 use Rattle.host.specs.Breaks.{breaks_answer_of, added_to, answer_with}
 
-added_is : (p : Play) (f : SliderFactors) (g : OrRefusal PlayScore) → answer_with (given_answer_of g) (added_to p f (given_answer_of g)) ≡ breaks_answer_of (with_breaks p f g)
+pub added_is : (p : Play) (f : SliderFactors) (g : OrRefusal PlayScore) → answer_with (given_answer_of g) (added_to p f (given_answer_of g)) ≡ breaks_answer_of (with_breaks p f g)
 unfolding added_to
 added_is p f (refused r) = simp (ne_eqb (number_of r.rule) 0 (λ e. omega (arith, number_above_0 r.rule, e)))
 added_is p f (good s) = go (factors_bad f)
@@ -30,13 +23,3 @@ added_is p f (good s) = go (factors_bad f)
         ≡ breaks_answer_of (pick t (refused (refusal_at FACTOR 0)) (good (breaks_score p f s)))
     go true = refl
     go false = refl
-
--- on any lent memory
-pub added_read : (b : List ℕ) (ts : List Float) (n : ℕ) (s : Settings) (br : List Float) (p : Play) (f : SliderFactors)
-    → answer_with (given_answer_of (at_0 (read_of b ts n s br p))) (added_to p f (given_answer_of (at_0 (read_of b ts n s br p)))) ≡ breaks_answer_of (with_breaks p f (at_0 (read_of b ts n s br p)))
-added_read b ts n s br p f = added_is p f (at_0 (read_of b ts n s br p))
-
--- on any file
-pub added_play : (s : List ℕ) (p : Play) (f : SliderFactors)
-    → answer_with (given_answer_of (given_play_of p (scores_of (file_of s)))) (added_to p f (given_answer_of (given_play_of p (scores_of (file_of s))))) ≡ breaks_answer_of (with_breaks p f (given_play_of p (scores_of (file_of s))))
-added_play s p f = added_is p f (given_play_of p (scores_of (file_of s)))

@@ -1,4 +1,4 @@
--- Factors as a host gives them, and the values of a play with its slider breaks as a host gets them.
+-- The values of a play with its slider breaks as a host gets them.
 use Rattle.std.specs.Prelude.{eqb}
 use Rattle.rules.specs.Refusals.{Checked, OrRefusal, good, refused, refusal_at, pick, FACTOR}
 use Rattle.play_state.specs.declared.Play.{Play}
@@ -8,12 +8,7 @@ use Rattle.slider_breaks.specs.declared.calculator.SliderFactors.{SliderFactors}
 use Rattle.slider_breaks.specs.declared.calculator.SliderBreaks.{SliderBreaks}
 use Rattle.host.specs.Answer.{play_answer_in, play_answer_refused}
 use Rattle.host.specs.declared.answer.PlayAnswer.{PlayAnswer}
-use Rattle.host.specs.declared.breaks.HostFactors.{HostFactors}
 use Rattle.host.specs.declared.breaks.BreaksAnswer.{BreaksAnswer}
-
--- the same two numbers; the call that takes them checks their range
-abbrev pub factors_in : HostFactors → SliderFactors
-factors_in f = record { aim = f.aim; speed = f.speed }
 
 -- the answer of the call without factors, and the slider breaks
 abbrev pub with_slider_breaks : PlayAnswer → SliderBreaks → BreaksAnswer
@@ -22,7 +17,7 @@ with_slider_breaks a b = record {
   offset = a.offset;
   attributes = a.attributes;
   estimates = a.estimates;
-  slider_breaks = record { aim = b.aim; speed = b.speed };
+  slider_breaks = b;
 }
 
 -- of a play that is given with factors beside a file or a board; a refusal has none of the values

@@ -2,21 +2,30 @@
 -- can change places.
 use Rattle.rules.specs.Refusals.{good, refused, refusal_at, number_of}
 use Rattle.rules.specs.declared.refusal.Rule.{Rule}
-use Rattle.std.specs.Prelude.{ℕ, ◌≡◌, refl}
-use Rattle.slider_breaks.specs.Given.{BreaksScore}
+use Rattle.std.specs.Prelude.{ℕ, true, ◌≡◌, refl}
+use Rattle.std.specs.Float.Ieee.{lt}
+use Rattle.numbers.specs.Floats.{whole}
+use Rattle.play_state.specs.declared.Play.{Play}
+use Rattle.play_score.specs.declared.PlayScore.{PlayScore}
+use Rattle.slider_breaks.specs.SliderBreaks.{slider_breaks_of, estimated_breaks}
+use Rattle.slider_breaks.specs.Given.{BreaksScore, breaks_score}
+use Rattle.slider_breaks.specs.declared.calculator.SliderFactors.{SliderFactors}
 use Rattle.host.specs.Answer.{play_answer_in}
 use Rattle.host.specs.Status.{board_words}
 use Rattle.tree.specs.Size.{levels_of, levels_from}
-use Rattle.host.specs.Breaks.{factors_in, breaks_answer_of}
-use Rattle.host.specs.declared.breaks.HostFactors.{HostFactors}
+use Rattle.host.specs.Breaks.{breaks_answer_of}
 
 -- no object, one, 4,097 and the most that a map has; then one more
 words_at_the_edges : (board_words 0 ≡ 26) × (board_words 1 ≡ 26) × (board_words 4097 ≡ 212992) × (board_words 8192 ≡ 212992) × (board_words 8193 ≡ 0)
 unfolding levels_of levels_from
 words_at_the_edges = (refl, refl, refl, refl, refl)
 
-factors_cross : (f : HostFactors) → ((factors_in f).aim ≡ f.aim) × ((factors_in f).speed ≡ f.speed)
-factors_cross f = (refl, refl)
+-- the factors of a host are the engine's: each makes the estimate of its name
+factors_cross : (p : Play) (f : SliderFactors) (s : PlayScore) → lt (whole 0) s.estimates.effective ≡ true
+    → ((breaks_answer_of (good (breaks_score p f s))).slider_breaks.aim ≡ slider_breaks_of p s.attributes.difficulty.max_combo s.estimates.effective f.aim)
+    × ((breaks_answer_of (good (breaks_score p f s))).slider_breaks.speed ≡ slider_breaks_of p s.attributes.difficulty.max_combo s.estimates.effective f.speed)
+unfolding estimated_breaks
+factors_cross p f s h = (simp h, simp h)
 
 -- a refusal keeps its number and its offset
 refusal_told : (n : Rule) (at : ℕ) → ((breaks_answer_of (refused (refusal_at n at))).status ≡ number_of n) × ((breaks_answer_of (refused (refusal_at n at))).offset ≡ at)

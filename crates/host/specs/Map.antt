@@ -1,23 +1,17 @@
--- Settings as a host gives them, and what it is told of a map file.
+-- What a host is told of a map file.
 use Rattle.rules.specs.Refusals.{OrRefusal, good, refused, number_of}
 use Rattle.rules.specs.declared.refusal.Refusal.{Refusal}
 use Rattle.std.specs.Float.{binary32}
 use Rattle.std.specs.Float.Ieee.{of_bits}
-use Rattle.records.specs.declared.beatmap.Settings.{Settings}
 use Rattle.map_file.specs.declared.file.Reader.{Reader}
-use Rattle.host.specs.declared.map.HostSettings.{HostSettings}
 use Rattle.host.specs.declared.map.MapInfo.{MapInfo}
-
--- the same three numbers; the call that takes them checks their range
-abbrev pub settings_in : HostSettings → Settings
-settings_in s = record { hp = s.hp; od = s.od; cs = s.cs }
 
 -- of an accepted file: its settings, how many breaks it has and how many objects
 abbrev pub map_info_in : Reader → MapInfo
 map_info_in r = record {
   status = 0;
   offset = 0;
-  settings = record { hp = r.settings.hp; od = r.settings.od; cs = r.settings.cs };
+  settings = r.settings;
   breaks = r.counts.breaks;
   objects = r.counts.objects;
 }

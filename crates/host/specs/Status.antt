@@ -10,8 +10,8 @@ use Rattle.host.specs.declared.status.Status.{Status}
 abbrev pub board_words : ℕ → ℕ
 board_words n = pick (ltb max_objects n) 0 (place_words * cap_of n)
 
--- 0 where the call wrote, else the number of the refusal and its offset
-abbrev pub status_of : OrRefusal (Unit {0}) → Status
+-- of a call: 0, or the number of its refusal and the offset
+abbrev pub status_of : {A : Type 0} → OrRefusal A → Status
 status_of (good _) = record { status = 0; offset = 0 }
 status_of (refused r) = record { status = number_of r.rule; offset = r.offset }
 

@@ -2,7 +2,7 @@
 #![tactic(auto)]
 
 pub mod answer; // the values of a map and of a play
-pub mod breaks; // factors, and the slider breaks of a play
-pub mod map; // settings, and what a map file holds
+pub mod breaks; // the slider breaks of a play beside its values
+pub mod map; // what a map file holds
 pub mod play; // a play as a host gives it
 pub mod status; // what a call that writes answers

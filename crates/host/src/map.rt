@@ -1,18 +1,10 @@
-// The settings of a map, and what a host is told of a map file before it scores it.
+// What a host is told of a map file before it scores it.
 ghost use Rattle.std.specs.Prelude.{◌≡◌};
-ghost use Rattle.host.specs.Map.{settings_in, map_info_in, map_info_refused, map_info_of};
+ghost use Rattle.host.specs.Map.{map_info_in, map_info_refused, map_info_of};
 
 use map_file::file::Reader;
 use records::beatmap::Settings;
 use rules::refusal::Refusal;
-
-#[repr(C)]
-#[derive(Clone, Copy, Default)]
-pub struct HostSettings {
-    pub hp: f32,
-    pub od: f32,
-    pub cs: f32,
-}
 
 // The status is 0, or the number of the refusal at the offset, with no value.
 #[repr(C)]
@@ -20,21 +12,9 @@ pub struct HostSettings {
 pub struct MapInfo {
     pub status: u8,
     pub offset: usize,
-    pub settings: HostSettings,
+    pub settings: Settings,
     pub breaks: u64,
     pub objects: u64,
-}
-
-impl From<HostSettings> for Settings {
-    ghost from_gives = { λ s r. r ≡ settings_in s };
-
-    fn from(s: HostSettings) -> Settings {
-        Settings {
-            hp: s.hp,
-            od: s.od,
-            cs: s.cs,
-        }
-    }
 }
 
 impl From<Reader> for MapInfo {
@@ -44,11 +24,7 @@ impl From<Reader> for MapInfo {
         MapInfo {
             status: 0,
             offset: 0,
-            settings: HostSettings {
-                hp: reader.settings.hp,
-                od: reader.settings.od,
-                cs: reader.settings.cs,
-            },
+            settings: reader.settings,
             breaks: reader.counts.breaks,
             objects: reader.counts.objects,
         }
@@ -62,7 +38,7 @@ impl From<Refusal> for MapInfo {
         MapInfo {
             status: refusal.rule.into(),
             offset: refusal.offset,
-            settings: HostSettings::default(),
+            settings: Settings::default(),
             breaks: 0,
             objects: 0,
         }

@@ -2,7 +2,7 @@
 ghost use Rattle.std.specs.Prelude.{◌≡◌};
 ghost use Rattle.host.specs.Play.{play_with, bad_play, play_in};
 
-use play_state::{GameMods, OsuHitResults, OsuScoreOrigin, Play, origin_of, score_of};
+use play_state::{GameMods, OsuHitResults, OsuScoreOrigin, Play, score_of};
 
 // The fields of a play's record, those of 8 bytes first.
 #[repr(C)]
@@ -62,12 +62,11 @@ impl From<HostPlay> for Play {
     ghost from_gives = { λ p r. r ≡ play_in p };
 
     fn from(p: HostPlay) -> Play {
-        let Some(origin) = origin_of(p.origin as u64) else {
-            return bad_play(p);
-        };
-        let Some(score) = score_of(p.has_score as u64, p.score) else {
-            return bad_play(p);
-        };
-        play_with(p, origin, score, p.flags)
+        let origin = OsuScoreOrigin::try_from(u64::from(p.origin));
+        let score = score_of(p.has_score as u64, p.score);
+        match (origin, score) {
+            (Ok(origin), Some(score)) => play_with(p, origin, score, p.flags),
+            _ => bad_play(p),
+        }
     }
 }

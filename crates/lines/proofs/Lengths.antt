@@ -21,7 +21,7 @@ unfolding float_field
 length-float_field x = simp length-append (omega (arith, length_float x))
 
 length-score_based_field : (m : Option Float) → length (score_based_field m) ≤ 17
-unfolding score_based_field
+unfolding score_based_field float_field
 length-score_based_field None = omega arith
 length-score_based_field (Some x) = length-float_field x
 

@@ -2,24 +2,27 @@
 -- Definitions only.
 use Rattle.rules.specs.Refusals.{number_of}
 use Rattle.rules.specs.declared.refusal.Refusal.{Refusal}
-use Rattle.std.specs.Prelude.{ℕ, List, ◌++◌, Float, Option, Some, None}
+use Rattle.std.specs.Prelude.{ℕ, List, ◌++◌, Float, Option}
 use Rattle.text.specs.Ascii.{ascii}
 use Rattle.text.specs.Numbers.{decimal_of, float_text}
+use Rattle.text.specs.Pages.{or_dash}
 use Rattle.simulator.specs.declared.attributes.ScoreAttributes.{ScoreAttributes}
 use Rattle.estimates.specs.declared.calculator.Estimates.{Estimates}
 
+abbrev pub field : List ℕ → List ℕ
+field text = ascii " " ++ text
+
 -- a number in decimal
 unfoldable pub number_field : ℕ → List ℕ
-number_field n = ascii " " ++ decimal_of n
+number_field n = field (decimal_of n)
 
 -- "as hexadecimal bits"
 unfoldable pub float_field : Float → List ℕ
-float_field x = ascii " " ++ float_text x
+float_field x = field (float_text x)
 
 -- "score-based (`-` if absent)"
 unfoldable pub score_based_field : Option Float → List ℕ
-score_based_field None = ascii " -"
-score_based_field (Some x) = float_field x
+score_based_field x = field (or_dash float_text x)
 
 -- "Map, of all objects: count, multiplier, accuracy, combo points, ratio bits, legacy bonus, max combo, nested bits"
 unfoldable pub map_line : ScoreAttributes → List ℕ

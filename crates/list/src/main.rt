@@ -13,7 +13,7 @@ use listing::{MAX_INPUT, list_input};
 use std::io;
 use std::io::{ErrorKind, Read, Write};
 
-// One byte more than the program takes, so that a longer input is told and no further byte is read.
+// One byte more than the program takes, so that a longer input is told and no further byte is read. A fixed space, since the project takes no heap.
 const INPUT: usize = MAX_INPUT + 1;
 
 // More than any listing has: 65,536 bytes hold at most 1,489 plays, whose lines have at most 94 bytes, as the map's has at most 164.

@@ -1,14 +1,14 @@
 -- The listing of any input leaves room in the program's space: a line is short, a play takes 44 bytes of the input, and a longer input than 65,536
 -- bytes gets one line. Assumes nothing.
 use Rattle.rules.specs.declared.refusal.Rule.{Rule}
-use Rattle.std.specs.Prelude.{Some}
+use Rattle.std.specs.Prelude.{Some, is_none}
 use mathlib.Core.Path.{◌≡◌, refl, ap, ◌∙◌, subst}
 use mathlib.Core.Bool.{Bool, true, false}
 use mathlib.Core.List.{List, [], ◌∷◌, ◌++◌}
 use Prim.Native.Nat.{ℕ, zero, suc, ◌+◌, ◌*◌, ◌^◌, ◌≤◌, ◌<◌}
 use native.Mathlib.Omega.{arith}
 use borrow.Author.Tests.{ltb-false, lt-ltb}
-use lib.Dec.{eqb, ltb}
+use lib.Dec.{ltb}
 use lib.ListN.{length, take, length-append, length-drop}
 use Rattle.rules.specs.Limits.{max_objects}
 use Rattle.rules.specs.Refusals.{Checked, good, refused, refusal_at, pick, MARK, INPUT}
@@ -86,7 +86,7 @@ data HeldFile (s : List ℕ) : Result → Type 0 where
   part : {n : Rule} {at : ℕ} {f : File} → at ≤ length s → Held s f → HeldFile s (refused_at n at f)
 
 held_ended : (s : List ℕ) (f : File) → Held s f → HeldFile s (ended f)
-held_ended s f k = go (eqb f.last 0)
+held_ended s f k = go (is_none f.last)
   where
     go : (b : Bool) → HeldFile s (pick b (refused_at MARK 0 f) (accepted f))
     go true = part {at = 0} (omega arith) k

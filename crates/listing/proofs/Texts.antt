@@ -10,7 +10,9 @@ use borrow.Author.Tests.{ltb-true, ltb-false, le-ltb}
 use lib.Dec.{ltb}
 use lib.ListN.{length}
 use Rattle.text.specs.Space.{behind}
-use Rattle.text.proofs.Space.{Puts, length_put}
+use Rattle.text.specs.Pages.{put}
+use Rattle.text.specs.declared.page.Page.{Page}
+use Rattle.text.proofs.Space.{length_put}
 use Rattle.lines.specs.Lines.{map_line, refused_line}
 use Rattle.map_file.specs.File.{file_of}
 use Rattle.simulator.specs.Attributes.{score_attributes_at}
@@ -44,10 +46,10 @@ module _ (s : List ℕ) where
         go : PlaysOf s 18446744073709551615 (good (m, a)) → GoodFile s m
         go (are map scores e same attributes) = record { p = 18446744073709551615; map = map; scores = scores; good = e }
 
--- the place behind a text is within the space
-pub put_inside : (l : List ℕ) (at : ℕ) (t : List ℕ) {s : List ℕ} {p : ℕ} → Puts l at t s p → p ≤ length s
+-- a text ends within its space
+pub put_inside : (p : Page) (t : List ℕ) → (put p t).at ≤ length (put p t).space.now
 unfolding behind
-put_inside l at t puts = let e = puts.0 in let size = ap length puts.1 ∙ length_put l at t in omega (arith, e, size)
+put_inside p t = let size = length_put p.space.now p.at t in omega (arith, size)
 
 -- a text that ends within the space ends at its length
 pub listed_is : (l t : List ℕ) → if_fits (behind l 0 t) (length l) ≡ listed_of t (length l)

@@ -1,7 +1,7 @@
--- What the loop that writes the plays' lines keeps: the space has the lines of the plays read so far behind what it had before. Assumes nothing.
+-- What the loop that writes the plays' lines keeps: the page has the lines of the plays read so far behind what it had before. Assumes nothing.
 use Rattle.rules.specs.declared.refusal.Rule.{Rule}
 use Rattle.rules.specs.Refusals.{good, refused, PLAY_EXCEEDS}
-use mathlib.Core.Path.{◌≡◌, refl, sym, ap, ◌∙◌, subst}
+use mathlib.Core.Path.{◌≡◌, refl, sym, ap, ◌∙◌}
 use mathlib.Core.Bool.{Bool, true, false}
 use mathlib.Core.List.{List, [], ◌∷◌, ◌++◌, append-nil, append_assoc}
 use Prim.Native.Nat.{ℕ, suc, ◌+◌, ◌≤◌, ◌<◌, min}
@@ -9,7 +9,9 @@ use native.Mathlib.Omega.{arith}
 use native.Mathlib.Nat.{add-zero}
 use lib.ListN.{length, drop, get_or}
 use Rattle.text.specs.Space.{behind}
-use Rattle.text.proofs.Space.{Written, Puts, next, put_nothing}
+use Rattle.text.specs.Pages.{put}
+use Rattle.text.specs.declared.page.Page.{Page}
+use Rattle.text.proofs.Space.{put-put, put_nothing}
 use Rattle.lines.specs.Lines.{play_line}
 use Rattle.map_file.specs.File.{file_of}
 use Rattle.map_file.proofs.Reading.{chain_inside, length_snoc}
@@ -51,25 +53,27 @@ one_more ss s {index = index} e =
     ap (λ (i : ℕ). play_lines 0 ss ++ play_line i s.estimates) n ∙ sym (lines_more 0 ss s)
 
 -- no line yet
-none_written : (l : List ℕ) (at : ℕ) → at ≤ length l → Written l at (play_lines 0 []) l at
+none_written : (p : Page) → p.at ≤ length p.space.now → p ≡ put p (play_lines 0 [])
 unfolding play_lines behind
-none_written l at h = record { place = (let e : at ≡ min (length l) (at + 0) = omega (arith, h) in e); space = sym (put_nothing l at) }
+none_written p h =
+    let here : p.at ≡ min (length p.space.now) (p.at + 0) = omega (arith, h) in
+    rw (put_nothing p.space.now p.at, ← here) refl
 
 -- no play is wanted: the lines are of all
-pub record Writing (s : List ℕ) (m : Map) (space₀ : List ℕ) (from at index : ℕ) (space : List ℕ) (to : ℕ) : Type 0 where
+pub record Writing (s : List ℕ) (m : Map) (first : Page) (at index : ℕ) (page : Page) : Type 0 where
   pub wanted : Wanted
   pub playing : Playing s m at wanted 0
   pub count : index ≡ length playing.scores
-  pub written : Written space₀ from (play_lines 0 playing.scores) space to
+  pub written : page ≡ put first (play_lines 0 playing.scores)
 
-pub writing_start : {s : List ℕ} {m : Map} (k : GoodFile s m) (space : List ℕ) (from : ℕ) → from ≤ length space → Writing s m space from m.end 0 space from
-writing_start k space from h =
+pub writing_start : {s : List ℕ} {m : Map} (k : GoodFile s m) (page : Page) → page.at ≤ length page.space.now → Writing s m page m.end 0 page
+writing_start k page h =
     let none = sym (start_scores k.map 0) in
     record {
       wanted = wanted.Ahead 0;
       playing = playing_start k.map 0;
       count = ap length none;
-      written = subst (λ (ss : List PlayScore). Written space from (play_lines 0 ss) space from) none (none_written space from h);
+      written = none_written page h ∙ ap (λ (ss : List PlayScore). put page (play_lines 0 ss)) none;
     }
 
 -- its map ends within it
@@ -80,7 +84,7 @@ end_inside {s = s} k = let e = k.map.end in let inside = chain_inside s k.map.fi
 not_refused : {A : Type 0} {s : List ℕ} {m : Map} (k : GoodFile s m) (n : Rule) (at : ℕ) → scores_of (file_of s) ≡ refusal n at → A
 not_refused k n at e = let same = sym k.good ∙ e in never (cc)
 
-module _ {s : List ℕ} {m : Map} {space₀ : List ℕ} {from at index : ℕ} {space : List ℕ} {to : ℕ} (k : Writing s m space₀ from at index space to) where
+module _ {s : List ℕ} {m : Map} {first : Page} {at index : ℕ} {page : Page} (k : Writing s m first at index page) where
   -- the attributes of the objects that a play passed
   abbrev at-passed : Play → ScoreAttributes
   at-passed q = score_attributes_at (map_of k.playing) q.passed_objects
@@ -99,9 +103,9 @@ module _ {s : List ℕ} {m : Map} {space₀ : List ℕ} {from at index : ℕ} {s
       writing_refused ok n r = not_refused ok n at (playing_refused k.playing h q e n r)
 
       -- one more line
-      writing_more : (y : PlayScore) → good y ≡ (play_score_on (map_of k.playing) q) → (space' : List ℕ) (to' : ℕ)
-          → Puts space to (play_line index y.estimates) space' to' → Writing s m space₀ from (at + 44) (index + 1) space' to'
-      writing_more y r space' to' puts =
+      writing_more : (y : PlayScore) → good y ≡ (play_score_on (map_of k.playing) q) → (page' : Page) → page' ≡ put page (play_line index y.estimates)
+          → Writing s m first (at + 44) (index + 1) page'
+      writing_more y r page' puts =
           let v = wanted_after k.wanted y in
           let more = sym (more_scores k.playing h q e y r v refl) in
           record {
@@ -109,21 +113,19 @@ module _ {s : List ℕ} {m : Map} {space₀ : List ℕ} {from at index : ℕ} {s
             playing = playing_more k.playing h q e y r v refl;
             count = ap (λ (n : ℕ). n + 1) k.count ∙ sym (length_snoc k.playing.scores y) ∙ ap length more;
             written =
-                subst (λ (x : List ℕ). Written space₀ from x space' to') (one_more k.playing.scores y k.count ∙ ap (play_lines 0) more)
-                (next k.written (play_line index y.estimates) puts);
+                puts ∙ ap (λ (p : Page). put p (play_line index y.estimates)) k.written ∙ put-put first (play_lines 0 k.playing.scores) (play_line index y.estimates)
+                ∙ ap (put first) (one_more k.playing.scores y k.count ∙ ap (play_lines 0) more);
           }
 
       -- a good file's play is not refused, so that its estimates are those of its score
-      pub writing_line : GoodFile s m → (r : Estimates) → r ≡ estimates_of q (at-passed q).difficulty → (space' : List ℕ) (to' : ℕ)
-          → Puts space to (play_line index r) space' to' → Writing s m space₀ from (at + 44) (index + 1) space' to'
-      writing_line ok r z space' to' puts = go (exceeds q (at-passed q)) refl
+      pub writing_line : GoodFile s m → (r : Estimates) → r ≡ estimates_of q (at-passed q).difficulty → (page' : Page) → page' ≡ put page (play_line index r)
+          → Writing s m first (at + 44) (index + 1) page'
+      writing_line ok r z page' puts = go (exceeds q (at-passed q)) refl
         where
-          go : (b : Bool) → exceeds q (at-passed q) ≡ b → Writing s m space₀ from (at + 44) (index + 1) space' to'
+          go : (b : Bool) → exceeds q (at-passed q) ≡ b → Writing s m first (at + 44) (index + 1) page'
           go true x = writing_refused ok PLAY_EXCEEDS (exceeds_refused q (at-passed q) x)
-          go false x = writing_more (score_of q (at-passed q)) (exceeds_not q (at-passed q) x) space' to' (subst (λ (u : Estimates). Puts space to (play_line index u) space' to') z puts)
+          go false x = writing_more (score_of q (at-passed q)) (exceeds_not q (at-passed q) x) page' (puts ∙ ap (λ (u : Estimates). put page (play_line index u)) z)
 
   -- at the end of the file all plays have their line
-  pub writing_done : length s ≤ at → Puts space₀ from (plays_text (scores_of (file_of s))) space to
-  writing_done h =
-      let w = subst (λ (x : List ℕ). Written space₀ from x space to) (sym (ap plays_text (playing_scores k.playing h))) k.written in
-      (w.place, w.space)
+  pub writing_done : length s ≤ at → page ≡ put first (plays_text (scores_of (file_of s)))
+  writing_done h = k.written ∙ ap (put first) (sym (ap plays_text (playing_scores k.playing h)))

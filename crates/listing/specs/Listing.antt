@@ -29,13 +29,14 @@ unfoldable pub input_text : List ℕ → List ℕ
 input_text s = pick (ltb max_input (length s)) (refused_line (refusal_at INPUT 0)) (file_text s)
 
 -- a text that leaves the space no byte does not fit
-abbrev pub listed_of : List ℕ → ℕ → Option ℕ
-listed_of text room = pick (ltb (length text) room) (Some (length text)) None
-
--- ---- what the code keeps
 abbrev pub if_fits : ℕ → ℕ → Option ℕ
 if_fits at room = pick (ltb at room) (Some at) None
 
+-- the length of a text that fits
+abbrev pub listed_of : List ℕ → ℕ → Option ℕ
+listed_of text room = if_fits (length text) room
+
+-- ---- what the code keeps
 abbrev pub plays_text : Outcome Scores → List ℕ
 plays_text (refusal n at) = []
 plays_text (values s) = play_lines 0 s.plays

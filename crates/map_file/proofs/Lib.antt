@@ -1,3 +1,4 @@
+pub mod Ranks
 pub mod Bodies
 pub mod Sizes
 pub mod Room

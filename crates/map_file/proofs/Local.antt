@@ -13,8 +13,9 @@ use Rattle.numbers.specs.Words.{word_at}
 use Rattle.numbers.proofs.words.Laws.{word_at-within}
 use Rattle.rules.specs.Refusals.{Checked, good, refused, ◌>>=◌, ◌>>◌, refuse◌when◌, pick, CUT, COUNT, PLAY_FIELD, MARK, BONUS}
 use Rattle.play_state.specs.Play.{hitresults_of}
-use Rattle.records.specs.Records.{Content, FoundRecord, CI, SL, SP, header_of, break_of, circle_of, slider_of, spinner_of, play_of, object_of}
-use Rattle.map_file.specs.Order.{MH, BR, PL, rank_of, in_order, is_full, over_bonus, content_bonus, body_of, record_of}
+use Rattle.records.specs.Marks.{MH, BR, CI, SL, SP, PL}
+use Rattle.records.specs.Records.{Content, FoundRecord, header_of, break_of, circle_of, slider_of, spinner_of, play_of, object_of}
+use Rattle.map_file.specs.Order.{rank_of, in_order, is_full, over_bonus, content_bonus, body_of, record_of}
 use Rattle.map_file.specs.declared.file.Counts.{Counts}
 use Rattle.rules.proofs.All.{All, that, all_any, all_when, all_out}
 use Rattle.rules.proofs.Laws.{never}

@@ -6,18 +6,19 @@ use mathlib.Core.List.{List, [], ◌∷◌, ◌++◌}
 use Prim.Native.Nat.{ℕ, zero, suc, ◌+◌, ◌-◌, ◌≤◌, ◌<◌}
 use native.Mathlib.Nat.{add-zero}
 use native.Mathlib.Omega.{arith}
-use lib.Dec.{eqb}
 use lib.ListN.{length, take, drop, length-append, length-drop, take-append-drop}
 use lib.Seq.{drop-append-le, length-take-le}
-use borrow.Author.Tests.{lt-ltb, le-ltb, ne_eqb}
+use borrow.Author.Tests.{lt-ltb, le-ltb}
+use Rattle.std.specs.Prelude.{is_none}
 use Rattle.rules.specs.Refusals.{good, refused, pick, MARK}
 use Rattle.records.specs.Objects.{Object, bonus, kind_bonus}
 use Rattle.records.specs.Records.{Content, header, break, object, play, FoundRecord}
-use Rattle.map_file.specs.Order.{record_of}
+use Rattle.map_file.specs.Order.{place, record_of}
 use Rattle.map_file.specs.File.{File, accepted, refused_at, counts_of, with_record, ended, file_from, nothing_read, file_of}
 use Rattle.rules.proofs.All.{all_out}
 use Rattle.map_file.proofs.Local.{record_in}
-use Rattle.map_file.proofs.Room.{place_of, record_ordered}
+use Rattle.map_file.proofs.Ranks.{placed_some}
+use Rattle.map_file.proofs.Room.{content_rank, record_ordered}
 use Rattle.map_file.proofs.Sizes.{Sized, record_sized}
 use Rattle.rules.proofs.Laws.{never}
 
@@ -104,7 +105,7 @@ on_end s f on h = go on.fuel refl
 
 -- the file that is accepted at the end of the input is the one read
 pub ended_is : (f g : File) → ended f ≡ accepted g → f ≡ g
-ended_is f g e = go (eqb f.last 0) e
+ended_is f g e = go (is_none f.last) e
   where
     go : (b : Bool) → pick b (refused_at MARK 0 f) (accepted f) ≡ accepted g → f ≡ g
     go true e = never (cc)
@@ -144,26 +145,26 @@ chain_inside s f (longer {f = g} {r = r} c h e) =
     omega (arith, past, sized.1, room, h)
 
 -- so what was read so far is the file of its own bytes, from the header on
-pub chain_file : (s : List ℕ) (f : File) → Chain s f → 0 < f.last → file_of (take f.at s) ≡ accepted f
+pub chain_file : (s : List ℕ) (f : File) → Chain s f → 0 < place f.last → file_of (take f.at s) ≡ accepted f
 chain_file s f c h =
     let whole : take f.at s ++ drop f.at s ≡ s = take-append-drop f.at s in
     let size : f.at ≡ length (take f.at s) = sym (length-take-le f.at s (chain_inside s f c)) in
-    part-file (take f.at s) (drop f.at s) f (subst (λ (l : List ℕ). Chain l f) (sym whole) c) size ∙ simp (ne_eqb f.last 0 (λ z. (omega (arith, h, z))))
+    part-file (take f.at s) (drop f.at s) f (subst (λ (l : List ℕ). Chain l f) (sym whole) c) size ∙ simp (placed_some f.last h)
 
 -- the place of a record in the order is that of its content, and no earlier than the last one's
-pub with_last : (f : File) (r : Content × ℕ) → (with_record f r).last ≡ place_of r.0
+pub with_last : (f : File) (r : Content × ℕ) → (with_record f r).last ≡ content_rank r.0
 unfolding with_record
 with_last f (header s, n) = refl
 with_last f (break b, n) = refl
 with_last f (object o, n) = refl
 with_last f (play p, n) = refl
 
-pub found_ordered : (s : List ℕ) (f : File) (r : Content × ℕ) → found_at s f ≡ good r → f.last ≤ place_of r.0
+pub found_ordered : (s : List ℕ) (f : File) (r : Content × ℕ) → found_at s f ≡ good r → place f.last ≤ place (content_rank r.0)
 unfolding counts_of
 found_ordered s f r e = all_out (rw e at (record_ordered (drop f.at s) (counts_of f)))
 
 -- plays come last
-pub chain_plays : (s : List ℕ) (f : File) → Chain s f → f.last ≤ 3 → f.plays ≡ []
+pub chain_plays : (s : List ℕ) (f : File) → Chain s f → place f.last ≤ 3 → f.plays ≡ []
 unfolding with_record
 chain_plays s f start h = refl
 chain_plays s f (longer {f = g} {r = (header t, n)} c b e) h = chain_plays s g c (omega (arith, found_ordered s g (header t, n) e))

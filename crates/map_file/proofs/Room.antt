@@ -7,26 +7,30 @@ use Prim.Native.Nat.{ℕ, ◌+◌, ◌≤◌, ◌<◌}
 use native.Mathlib.Omega.{arith}
 use lib.Dec.{eqb, leb, ltb}
 use borrow.Author.Tests.{leb-true, leb-false, ltb-true, ltb-false, eqb-true, not-false}
+use Rattle.std.specs.Prelude.{Option}
 use Rattle.rules.specs.Limits.{max_breaks, max_objects, max_bonus}
 use Rattle.numbers.specs.Words.{word_at}
-use Rattle.records.specs.Records.{Content, header, break, object, play, CI, SL, SP, header_of, break_of, circle_of, slider_of, spinner_of, play_of, object_of, content_view}
-use Rattle.map_file.specs.Order.{MH, BR, PL, rank_of, in_order, is_full, over_bonus, content_bonus, body_of, record_of}
+use Rattle.records.specs.Marks.{MH, BR, CI, SL, SP, PL}
+use Rattle.records.specs.Records.{Content, header, break, object, play, header_of, break_of, circle_of, slider_of, spinner_of, play_of, object_of, content_view}
+use Rattle.map_file.specs.Order.{header_rank, break_rank, object_rank, play_rank, place, rank_of, in_order, is_full, over_bonus, content_bonus, body_of, record_of}
 use Rattle.map_file.specs.View.{Fits}
 use Rattle.map_file.specs.declared.file.Counts.{Counts}
+use Rattle.map_file.specs.declared.file.Rank.{Rank}
 use Rattle.rules.proofs.All.{All, none, that, all_bind, all_any, all_when, all_pick}
 use Rattle.map_file.proofs.Bodies.{bonus_kept}
+use Rattle.map_file.proofs.Ranks.{none_is}
 use Rattle.rules.proofs.Laws.{and_left, and_right}
 
 -- the place of a content in the order
-abbrev pub place_of : Content → ℕ
-place_of (header s) = 1
-place_of (break b) = 2
-place_of (object o) = 3
-place_of (play p) = 4
+abbrev pub content_rank : Content → Option Rank
+content_rank (header s) = header_rank
+content_rank (break b) = break_rank
+content_rank (object o) = object_rank
+content_rank (play p) = play_rank
 
 -- a record's content is of its mark's place
 abbrev pub Placed : ℕ → Content × ℕ → Type 0
-Placed m f = place_of f.0 ≡ rank_of m
+Placed m f = content_rank f.0 ≡ rank_of m
 
 object_placed : (r : List ℕ) (m : ℕ) → eqb m MH ≡ false → eqb m BR ≡ false → All (Placed m) (object_of r m)
 unfolding object_of circle_of slider_of spinner_of
@@ -42,10 +46,10 @@ body_placed r m =
     all_pick (eqb m BR) (λ e. all_when CUT _ _ (λ _. all_any _ _ (λ a. all_any _ _ (λ b. that (simp (n₁, e)))))) (λ n₂.
     all_pick (eqb m PL) (λ e. all_when CUT _ _ (λ _. all_any _ _ (λ o. all_any _ _ (λ s. all_when PLAY_FIELD _ _ (λ _. all_any _ _ (λ x. that (play_place m e))))))) (λ _. object_placed r m n₁ n₂)))
   where
-    play_place : (m : ℕ) → eqb m PL ≡ true → 4 ≡ rank_of m
+    play_place : (m : ℕ) → eqb m PL ≡ true → play_rank ≡ rank_of m
     play_place m e = ap rank_of (sym (eqb-true m PL e))
 
-fits : (c : Counts) (m : ℕ) (x : Content) → place_of x ≡ rank_of m → is_full c (rank_of m) ≡ false → over_bonus c (content_bonus x) ≡ false → Fits c (content_view x)
+fits : (c : Counts) (m : ℕ) (x : Content) → content_rank x ≡ rank_of m → is_full c (rank_of m) ≡ false → over_bonus c (content_bonus x) ≡ false → Fits c (content_view x)
 fits c m (header s) p q h = tt
 fits c m (break b) p q h = leb-false max_breaks c.breaks (rw (sym p) at q)
 fits c m (object o) p q h = (leb-false max_objects c.objects (rw (sym p) at q), (let k : c.bonus + content_bonus (object o) ≤ max_bonus = ltb-false max_bonus _ h in rw (bonus_kept (object o)) k))
@@ -57,13 +61,13 @@ record_fits r c =
     all_when CUT _ _ (λ _. all_when MARK _ _ (λ _. all_when COUNT _ _ (λ few.
     all_bind (body_of r (word_at r 0 2)) _ (body_placed r (word_at r 0 2)) (λ f h. all_when BONUS _ _ (λ low. that (fits c (word_at r 0 2) f.0 h few low))))))
 
-ordered : (last m : ℕ) (x : Content) → place_of x ≡ rank_of m → in_order last (rank_of m) ≡ true → last ≤ place_of x
-ordered last m (header s) p q = let e = eqb-true last 0 (rw (sym p) at q) in omega (arith, e)
-ordered last m (break b) p q = leb-true last 2 (and_right (ltb 0 last) (leb last 2) (rw (sym p) at q))
-ordered last m (object o) p q = leb-true last 3 (and_right (ltb 0 last) (leb last 3) (rw (sym p) at q))
-ordered last m (play s) p q = leb-true last 4 (and_right (ltb 0 last) (leb last 4) (rw (sym p) at q))
+ordered : (last : Option Rank) (m : ℕ) (x : Content) → content_rank x ≡ rank_of m → in_order last (rank_of m) ≡ true → place last ≤ place (content_rank x)
+ordered last m (header s) p q = let e = ap place (none_is last (rw (sym p) at q)) in omega (arith, e)
+ordered last m (break b) p q = leb-true (place last) 2 (and_right (ltb 0 (place last)) (leb (place last) 2) (rw (sym p) at q))
+ordered last m (object o) p q = leb-true (place last) 3 (and_right (ltb 0 (place last)) (leb (place last) 3) (rw (sym p) at q))
+ordered last m (play s) p q = leb-true (place last) 4 (and_right (ltb 0 (place last)) (leb (place last) 4) (rw (sym p) at q))
 
-pub record_ordered : (r : List ℕ) (c : Counts) → All (λ f. c.last ≤ place_of f.0) (record_of r c)
+pub record_ordered : (r : List ℕ) (c : Counts) → All (λ f. place c.last ≤ place (content_rank f.0)) (record_of r c)
 unfolding record_of
 record_ordered r c =
     all_when CUT _ _ (λ _. all_when MARK _ _ (λ order. all_when COUNT _ _ (λ _.
@@ -72,15 +76,15 @@ record_ordered r c =
 -- a record that is no header comes after one
 abbrev pub Begun : Counts → Content → Type 0
 Begun c (header s) = Unit
-Begun c (break b) = 0 < c.last
-Begun c (object o) = 0 < c.last
-Begun c (play p) = 0 < c.last
+Begun c (break b) = 0 < place c.last
+Begun c (object o) = 0 < place c.last
+Begun c (play p) = 0 < place c.last
 
-begun : (c : Counts) (m : ℕ) (x : Content) → place_of x ≡ rank_of m → in_order c.last (rank_of m) ≡ true → Begun c x
+begun : (c : Counts) (m : ℕ) (x : Content) → content_rank x ≡ rank_of m → in_order c.last (rank_of m) ≡ true → Begun c x
 begun c m (header s) p q = tt
-begun c m (break b) p q = ltb-true 0 c.last (and_left _ _ (rw (sym p) at q))
-begun c m (object o) p q = ltb-true 0 c.last (and_left _ _ (rw (sym p) at q))
-begun c m (play s) p q = ltb-true 0 c.last (and_left _ _ (rw (sym p) at q))
+begun c m (break b) p q = ltb-true 0 (place c.last) (and_left _ _ (rw (sym p) at q))
+begun c m (object o) p q = ltb-true 0 (place c.last) (and_left _ _ (rw (sym p) at q))
+begun c m (play s) p q = ltb-true 0 (place c.last) (and_left _ _ (rw (sym p) at q))
 
 pub record_begun : (r : List ℕ) (c : Counts) → All (λ f. Begun c f.0) (record_of r c)
 unfolding record_of

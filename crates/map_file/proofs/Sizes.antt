@@ -9,8 +9,9 @@ use lib.Dec.{eqb, ltb}
 use lib.ListN.{length}
 use borrow.Author.Tests.{ltb-false}
 use Rattle.numbers.specs.Words.{word_at}
-use Rattle.records.specs.Records.{Content, header, break, object, play, CI, SL, SP, header_of, break_of, circle_of, slider_of, spinner_of, play_of, object_of}
-use Rattle.map_file.specs.Order.{MH, BR, PL, body_of, record_of}
+use Rattle.records.specs.Marks.{MH, BR, CI, SL, SP, PL}
+use Rattle.records.specs.Records.{Content, header, break, object, play, header_of, break_of, circle_of, slider_of, spinner_of, play_of, object_of}
+use Rattle.map_file.specs.Order.{body_of, record_of}
 use Rattle.map_file.specs.declared.file.Counts.{Counts}
 use Rattle.rules.proofs.All.{All, none, that, all_bind, all_any, all_when, all_pick}
 

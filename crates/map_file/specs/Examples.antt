@@ -1,7 +1,7 @@
 -- Document 01, "What a caller gets", computed: the smallest file of each number, which of two faults of a record is told, and each limit at its
 -- edge. Limits and numbers stand as document 01 writes them, not by their names, so that a name for a wrong one is found. (For the smallest file
 -- of 7 see `over_bonus_lem` of the crate `encoding`: it has 76 spinners.)
-use Rattle.std.specs.Prelude.{ℕ, ◌-◌, ◌≡◌, refl, List, [], ◌∷◌, ◌++◌, map, take, replicate}
+use Rattle.std.specs.Prelude.{ℕ, ◌-◌, ◌≡◌, refl, List, [], ◌∷◌, ◌++◌, Option, map, take, replicate}
 use Rattle.std.specs.Float.Ieee.{of_bits, of_int, round, to_unsigned, mul, div, le, lt, eq, neg}
 use Rattle.numbers.specs.Words.{word_at, bytes_of}
 use Rattle.spinner.specs.HalfSpins.{total_half_spins, required_half_spins}
@@ -13,6 +13,7 @@ use Rattle.records.specs.Records.{FoundRecord, header_of, break_of, circle_of, n
 use Rattle.map_file.specs.Order.{no_rank, header_rank, break_rank, object_rank, play_rank, body_of, record_of}
 use Rattle.map_file.specs.File.{Result, accepted, refused_at, counts_of, with_record, file_from, file_of}
 use Rattle.map_file.specs.declared.file.Counts.{Counts}
+use Rattle.map_file.specs.declared.file.Rank.{Rank}
 
 -- ---- the records, by document 01's layout; a float is given by its bits
 abbrev header : ℕ → ℕ → ℕ → List ℕ
@@ -79,7 +80,7 @@ unfolding files file_of file_from with_record counts_of bonus record_of body_of 
 smallest = refl
 
 -- ---- one record, from its mark on, behind those counted
-abbrev behind : ℕ → Counts
+abbrev behind : Option Rank → Counts
 behind rank = record { last = rank; breaks = 0; objects = 0; bonus = 0 }
 
 abbrev breaks : ℕ → Counts

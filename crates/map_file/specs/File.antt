@@ -1,5 +1,5 @@
 -- A map file as a whole: its map (settings, breaks and objects) and its plays, or the first refusal.
-use Rattle.std.specs.Prelude.{ℕ, zero, suc, ◌+◌, List, [], ◌∷◌, ◌++◌, eqb, ltb, length, drop}
+use Rattle.std.specs.Prelude.{ℕ, zero, suc, ◌+◌, List, [], ◌∷◌, ◌++◌, Option, is_none, ltb, length, drop}
 use Rattle.std.specs.Float.{binary32}
 use Rattle.std.specs.Float.Ieee.{of_bits}
 use Rattle.rules.specs.Refusals.{Checked, good, refused, pick, INPUT, MARK}
@@ -11,6 +11,7 @@ use Rattle.records.specs.declared.beatmap.Settings.{Settings}
 use Rattle.records.specs.declared.beatmap.BreakPeriod.{BreakPeriod}
 use Rattle.play_state.specs.declared.Play.{Play}
 use Rattle.map_file.specs.declared.file.Counts.{Counts}
+use Rattle.map_file.specs.declared.file.Rank.{Rank}
 
 -- "A map is settings, breaks and objects"
 pub record Map : Type 0 where
@@ -21,7 +22,7 @@ pub record Map : Type 0 where
 -- what was read before the offset `at`: the map, the plays with their offsets, and the place in the order of the last record
 pub record File : Type 0 where
   pub at : ℕ
-  pub last : ℕ
+  pub last : Option Rank
   pub map : Map
   pub plays : List (ℕ × Play)
 
@@ -44,7 +45,7 @@ pub data Result : Type 0 where
 
 -- at the end of the input: the offset "is 0 .. for a missing header"
 abbrev pub ended : File → Result
-ended f = pick (eqb f.last no_rank) (refused_at MARK 0 f) (accepted f)
+ended f = pick (is_none f.last) (refused_at MARK 0 f) (accepted f)
 
 -- "The offset is that of the record's first mark byte"
 abbrev pub follow : File → Checked (Content × ℕ) → (Content × ℕ → Result) → Result

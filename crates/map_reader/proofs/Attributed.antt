@@ -55,7 +55,6 @@ module _ {s : List ℕ} {p : ℕ} {m : Map} (k : MapIs s p m) where
   pub complete : Complete m
   complete = (
     subst SettingsWithin (sym k.settings) limits.settings,
-    (let e = k.breaks in let h = limits.few_breaks in omega (arith, e, h)),
     subst (Within max_objects) (sym k.passed.score) (passed-within p max_objects os limits.few_objects (omega arith) (each_few os limits.objects)),
     subst (Counted max_objects) (sym k.passed.nested) (passed_counted p max_objects os limits.few_objects (omega arith) (each_few os limits.objects)),
   )
@@ -85,12 +84,12 @@ module _ {s : List ℕ} {p : ℕ} {m : Map} (k : MapIs s p m) where
           not_none p n zero e h = absurd (h refl)
           not_none p n (suc l) e h = omega (arith, e)
 
-  breaks_are : breaks_in s m.breaks ≡ bs
+  breaks_are : breaks_in s m.breaks.count ≡ bs
   breaks_are = ap (breaks_in s) k.breaks ∙ (chain_standing s k.file k.chain).same
 
   drain_is : drain_in s m ≡ drain_at bs os p
   unfolding drain_in
-  drain_is = drain_of_lem bs os p m.objects m.first_start (last_start_of m) (breaks_in s m.breaks) k.objects k.first last_is breaks_are
+  drain_is = drain_of_lem bs os p m.objects m.first_start (last_start_of m) (breaks_in s m.breaks.count) k.objects k.first last_is breaks_are
 
   multiplier_is : multiplier_in s m ≡ multiplier_at k.file.map p
   unfolding multiplier_at

@@ -13,11 +13,12 @@ use Rattle.rules.specs.Limits.{max_breaks}
 use Rattle.rules.specs.Refusals.{good, refused, pick, CUT, MARK}
 use Rattle.rules.proofs.All.{All, that, all_any, all_when, all_out}
 use Rattle.rules.proofs.Laws.{and_left, and_right}
+use Rattle.records.specs.Marks.{BR}
 use Rattle.records.specs.Objects.{bonus}
 use Rattle.records.specs.Records.{Content, header, break, object, play, FoundRecord, break_of, content_view}
 use Rattle.records.specs.declared.beatmap.Settings.{Settings}
 use Rattle.records.specs.declared.beatmap.BreakPeriod.{BreakPeriod}
-use Rattle.map_file.specs.Order.{BR, record_of}
+use Rattle.map_file.specs.Order.{place, record_of}
 use Rattle.map_file.specs.File.{File, counts_of, with_record, nothing_read, refused_at, file_of}
 use Rattle.map_file.specs.View.{Fits, fresh_of}
 use Rattle.map_file.proofs.Reading.{Chain, chain_inside, start, longer, on_start, on_stop, on_end, found_at, length_snoc}
@@ -29,15 +30,15 @@ use Rattle.map_reader.proofs.Files.{chain_standing, NoBreak}
 -- ---- the breaks: what was read of a map before its objects
 pub record BreaksAt (s : List ℕ) (t : Settings) (count : ℕ) (f : File) : Type 0 where
   pub chain : Chain s f
-  pub begun : 0 < f.last
-  pub early : f.last ≤ 2
+  pub begun : 0 < place f.last
+  pub early : place f.last ≤ 2
   pub settings : f.map.settings ≡ t
   pub breaks : length f.map.breaks ≡ count
   pub objects : f.map.objects ≡ []
 
 pub breaks_place : {s : List ℕ} {t : Settings} {count : ℕ} {f : File} → BreaksAt s t count f → f.at ≡ objects_from count
 breaks_place {s = s} {f = f} k =
-    let e = (chain_standing s f k.chain).place k.begun k.early in
+    let e = (chain_standing s f k.chain).stands k.begun k.early in
     let b = k.breaks in
     omega (arith, e, b)
 

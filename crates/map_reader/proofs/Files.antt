@@ -13,7 +13,7 @@ use Rattle.rules.proofs.All.{All, all_out}
 use Rattle.records.specs.Objects.{Object, bonus, kind_bonus}
 use Rattle.records.specs.Records.{Content, header, break, object, play, FoundRecord, object_of}
 use Rattle.records.specs.declared.beatmap.BreakPeriod.{BreakPeriod}
-use Rattle.map_file.specs.Order.{record_of}
+use Rattle.map_file.specs.Order.{place, record_of}
 use Rattle.map_file.specs.File.{File, counts_of, with_record, refused_at, file_of}
 use Rattle.map_file.proofs.Reading.{Chain, start, longer, chain_on, chain_plays, on_stop, found_at, with_last, found_ordered, length_snoc, chain_file}
 use Rattle.map_file.proofs.Sizes.{Sized, object_sized}
@@ -37,7 +37,7 @@ use Rattle.map_reader.proofs.Records.{object_good, object_over, found_object, ob
 use Rattle.map_reader.proofs.Running.{count_of, object_at, Took, Stops, short, none, Answered, took, stop, over as over_by, answered, took_count, ran_next, ran_stop, ran_over}
 
 -- ---- any file that was read so far, from its header on
-pub chain_limits : (s : List ℕ) (f : File) → Chain s f → 0 < f.last → MapWithin f.map
+pub chain_limits : (s : List ℕ) (f : File) → Chain s f → 0 < place f.last → MapWithin f.map
 chain_limits s f c h = accepted_within _ f (chain_file s f c h)
 
 pub chain_standing : (s : List ℕ) (f : File) → Chain s f → Standing s f
@@ -83,8 +83,8 @@ state_none at = record { score = refl; nested = refl; last = refl }
 -- ---- a state keeps what a file holds
 pub record Keeps (s : List ℕ) (f : File) (x : Objects) : Type 0 where
   pub chain : Chain s f
-  pub begun : 0 < f.last
-  pub no_play : f.last ≤ 3
+  pub begun : 0 < place f.last
+  pub no_play : place f.last ≤ 3
   pub at : x.at ≡ f.at
   pub state : StateOf f.map.objects x
 
@@ -159,7 +159,7 @@ module _ {s : List ℕ} {f : File} {x : Objects} (k : Keeps s f x) where
 
     -- behind an object stands no break
     pub next_no_break : NoBreak s file_with
-    next_no_break b n e = let h = found_ordered s file_with (break b, n) e in let l = with_last f (object t.o, t.size) in omega (arith, h, l)
+    next_no_break b n e = let h = found_ordered s file_with (break b, n) e in let l = ap place (with_last f (object t.o, t.size)) in omega (arith, h, l)
 
 -- ---- the objects that a run takes
 abbrev object_in : Content → List Object

@@ -11,14 +11,18 @@ use borrow.Author.Tests.{lt-ltb, le-ltb, ne_eqb}
 use Rattle.numbers.specs.Words.{word_at}
 use Rattle.rules.specs.Limits.{max_breaks}
 use Rattle.rules.specs.Refusals.{good, refused, ◌>>=◌, ◌>>◌, refuse◌when◌, pick, CUT, MARK, BONUS, Checked}
+use Rattle.rules.proofs.Laws.{never}
 use Rattle.rules.proofs.All.{All, none, that, all_any, all_when}
-use Rattle.records.specs.Records.{Content, header, break, object, play, FoundRecord, CI, SL, SP, header_of, content_view, record_read}
+use Rattle.records.specs.Marks.{MH, BR, CI, SL, SP, PL, mark_of}
+use Rattle.records.specs.declared.mark.Mark.TheVariants as mark
+use Rattle.records.proofs.Marks.{word_is}
+use Rattle.records.specs.Records.{Content, header, break, object, play, FoundRecord, header_of, content_view, record_read}
 use Rattle.records.specs.declared.beatmap.Settings.{Settings}
 use Rattle.records.specs.declared.record.Record.{Record}
 use Rattle.records.specs.declared.record.Record.TheVariants as record_case
-use Rattle.map_file.specs.Order.{MH, BR, PL, no_rank, header_rank, break_rank, object_rank, play_rank, in_order, over_bonus, content_bonus, body_of, record_of}
+use Rattle.map_file.specs.Order.{no_rank, header_rank, break_rank, object_rank, play_rank, in_order, over_bonus, content_bonus, body_of, record_of}
 use Rattle.map_file.specs.View.{fresh_of}
-use Rattle.map_file.proofs.Room.{place_of}
+use Rattle.map_file.proofs.Room.{content_rank}
 use Rattle.map_reader.specs.Map.{objects_from, head_with, head_of, head_in, is_good, is_break, breaks_after, end_of}
 
 -- ---- what a read record says
@@ -72,19 +76,19 @@ other_rank false false false true pl = refl
 other_rank false false false false true = refl
 other_rank false false false false false = refl
 
-header_only : (s : List ℕ) → All (λ f. place_of f.0 ≡ header_rank) (header_of s)
+header_only : (s : List ℕ) → All (λ f. content_rank f.0 ≡ header_rank) (header_of s)
 unfolding header_of
 header_only s = all_when CUT _ _ (λ _. all_any _ _ (λ hp. all_any _ _ (λ od. all_any _ _ (λ cs. that refl))))
 
 -- a header has no bonus
-under_bonus : (x : FoundRecord) → All (λ f. place_of f.0 ≡ header_rank) x
+under_bonus : (x : FoundRecord) → All (λ f. content_rank f.0 ≡ header_rank) x
     → (x >>= (λ f. (refuse BONUS when over_bonus fresh_of.counts (content_bonus f.0)) >> good f)) ≡ x
 unfolding ◌>>=◌ ◌>>◌ refuse◌when◌
 under_bonus (refused n) none = refl
 under_bonus (good (header t, n)) (that p) = refl
-under_bonus (good (break b, n)) (that p) = absurd (omega (arith, p))
-under_bonus (good (object o, n)) (that p) = absurd (omega (arith, p))
-under_bonus (good (play y, n)) (that p) = absurd (omega (arith, p))
+under_bonus (good (break b, n)) (that p) = never (cc)
+under_bonus (good (object o, n)) (that p) = never (cc)
+under_bonus (good (play y, n)) (that p) = never (cc)
 
 -- what the code takes of a record
 abbrev head_by : Record → Checked Settings
@@ -112,21 +116,21 @@ module _ (s : List ℕ) where
   unfolding head_in record_of ◌>>=◌ ◌>>◌ refuse◌when◌
   head_cut some h = simp (ne_eqb (length s) 0 some, lt-ltb (length s) 2 h)
 
-  pub head_marked : 2 ≤ length s → (word_at s 0 2 ≡ MH → ⊥) → head_in s ≡ refused MARK
+  pub head_marked : 2 ≤ length s → (mark_of (word_at s 0 2) ≡ good mark.Header → ⊥) → head_in s ≡ refused MARK
   unfolding head_in record_of ◌>>=◌ ◌>>◌ refuse◌when◌
   head_marked h e =
-      let mark = word_at s 0 2 in
+      let word = word_at s 0 2 in
       simp (
         ne_eqb (length s) 0 (λ z. (omega (arith, h, z))),
         le-ltb (length s) 2 h,
-        ne_eqb mark MH e,
-        other_rank (eqb mark BR) (eqb mark CI) (eqb mark SL) (eqb mark SP) (eqb mark PL),
+        ne_eqb word MH (λ z. e (ap mark_of z)),
+        other_rank (eqb word BR) (eqb word CI) (eqb word SL) (eqb word SP) (eqb word PL),
       )
 
   header_first : 2 ≤ length s → word_at s 0 2 ≡ MH → record_of s fresh_of.counts ≡ header_of s
   unfolding record_of body_of ◌>>◌ refuse◌when◌
   header_first h e = simp (le-ltb (length s) 2 h, e) (under_bonus (header_of s) (header_only s))
 
-  pub head_read : 2 ≤ length s → word_at s 0 2 ≡ MH → head_in s ≡ head_taken (record_read (header_of s))
+  pub head_read : 2 ≤ length s → mark_of (word_at s 0 2) ≡ good mark.Header → head_in s ≡ head_taken (record_read (header_of s))
   unfolding head_in
-  head_read h e = simp (ne_eqb (length s) 0 (λ z. (omega (arith, h, z))), header_first h e) (headed (header_of s))
+  head_read h e = simp (ne_eqb (length s) 0 (λ z. (omega (arith, h, z))), header_first h (word_is _ mark.Header e)) (headed (header_of s))

@@ -12,8 +12,9 @@ use Rattle.numbers.specs.Words.{word_at}
 use Rattle.rules.specs.Limits.{max_objects, max_nested, max_bonus, circle_size}
 use Rattle.rules.specs.Refusals.{good, refused, pick, refusal_at, BONUS, CUT, COUNT}
 use Rattle.rules.proofs.All.{All, none as nothing, that, all_any, all_when, all_pick, all_out}
+use Rattle.records.specs.Marks.{CI, SL, SP}
 use Rattle.records.specs.Objects.{Object, Kind, circle, slider, spinner, kind_view, kind_bonus}
-use Rattle.records.specs.Records.{Content, object, FoundRecord, CI, SL, SP, circle_of, slider_of, spinner_of, object_of, break, header, play}
+use Rattle.records.specs.Records.{Content, object, FoundRecord, circle_of, slider_of, spinner_of, object_of, break, header, play}
 use Rattle.map_file.proofs.Sizes.{Sized, object_sized}
 use Rattle.simulator.specs.Limits.{Within, Counted, nested_count}
 use Rattle.simulator.proofs.Bounds.{fresh-within, step_within, none-counted, step_counted}

@@ -9,8 +9,9 @@ use lib.Ieee.{Float}
 use Rattle.numbers.specs.Floats.{whole}
 use Rattle.rules.specs.Limits.{max_nested}
 use Rattle.rules.specs.Refusals.{good, refused, CUT, COUNT, Checked}
+use Rattle.records.specs.Marks.{CI, SL, SP}
 use Rattle.records.specs.Objects.{Object, Kind, circle, slider, spinner, kind_view, object_view, kind_bonus}
-use Rattle.records.specs.Records.{Content, object, FoundRecord, record_read, circle_of, slider_of, spinner_of, object_of, CI, SL, SP, break, header, play}
+use Rattle.records.specs.Records.{Content, object, FoundRecord, record_read, circle_of, slider_of, spinner_of, object_of, break, header, play}
 use Rattle.records.specs.declared.hit_object.Slider.{Slider}
 use Rattle.records.specs.declared.hit_object.HitObject.{HitObject}
 use Rattle.records.specs.declared.hit_object.HitObjectKind.{HitObjectKind}

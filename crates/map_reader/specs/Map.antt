@@ -1,5 +1,5 @@
 -- What the code reads of a file's map, and what that says of the file.
-use Rattle.std.specs.Prelude.{ℕ, zero, suc, ◌+◌, ◌*◌, ◌-◌, ◌≤◌, ◌<◌, min, ◌≡◌, Bool, true, false, ◌&&◌, List, [], ◌∷◌, ◌++◌, eqb, ltb, leb, Float, length, take, drop}
+use Rattle.std.specs.Prelude.{ℕ, zero, suc, ◌+◌, ◌*◌, ◌-◌, ◌≤◌, ◌<◌, min, ◌≡◌, Bool, true, false, ◌&&◌, List, [], ◌∷◌, ◌++◌, Some, eqb, ltb, leb, Float, length, take, drop}
 use Rattle.std.specs.Float.{binary64}
 use Rattle.std.specs.Float.Ieee.{of_bits}
 use Rattle.numbers.specs.Floats.{whole}
@@ -7,12 +7,16 @@ use Rattle.numbers.specs.Words.{word_at}
 use Rattle.rules.specs.Limits.{max_objects, max_breaks, header_size, break_size, circle_size}
 use Rattle.rules.specs.Refusals.{good, refused, pick, MARK, Checked, OrRefusal, refusal_at}
 use Rattle.rules.specs.declared.refusal.Rule.{Rule}
+use Rattle.records.specs.Marks.{BR, PL}
 use Rattle.records.specs.Objects.{Object}
-use Rattle.records.specs.Records.{Content, header, break, object, play, FoundRecord, break_of, object_of}
+use Rattle.records.specs.Records.{Content, header, object, FoundRecord, break_of, object_of}
 use Rattle.records.specs.declared.beatmap.Settings.{Settings}
-use Rattle.map_file.specs.Order.{BR, PL, no_rank, header_rank, break_rank, object_rank, record_of}
+use Rattle.records.specs.declared.beatmap.BreakCount.{BreakCount}
+use Rattle.map_file.specs.Order.{no_rank, object_rank, place, record_of}
 use Rattle.map_file.specs.File.{File, refused_at, file_of}
 use Rattle.map_file.specs.View.{fresh_of}
+use Rattle.map_file.specs.declared.file.Rank.{Rank}
+use Rattle.map_file.specs.declared.file.Rank.TheVariants as rank
 use Rattle.map_file.specs.declared.file.Reader.{Reader}
 use Rattle.map_file.proofs.Reading.{Chain}
 use Rattle.ruleset.specs.Drain.{start_of}
@@ -27,11 +31,10 @@ use Rattle.map_reader.specs.declared.map.Map.{Map}
 abbrev pub objects_from : ℕ → ℕ
 objects_from breaks = header_size + breaks * break_size
 
+-- the header is the only first record in order
 abbrev pub head_with : Content → Checked Settings
 head_with (header t) = good t
-head_with (break b) = refused MARK
-head_with (object o) = refused MARK
-head_with (play p) = refused MARK
+head_with other = refused MARK
 
 abbrev pub head_of : FoundRecord → Checked Settings
 head_of (refused n) = refused n
@@ -62,15 +65,16 @@ breaks_count s = breaks_after max_breaks s 0
 abbrev pub first_start_of : List ℕ → ℕ → ℕ → Float
 first_start_of s breaks objects = pick (eqb objects 0) (whole 0) (of_bits binary64 (word_at s (objects_from breaks + 2) 8))
 
-abbrev pub rank_behind : ℕ → ℕ → ℕ
-rank_behind breaks objects = pick (ltb 0 objects) object_rank (pick (ltb 0 breaks) break_rank header_rank)
+-- the place in the order of a map's last record
+abbrev pub rank_behind : ℕ → ℕ → Rank
+rank_behind breaks objects = pick (ltb 0 objects) rank.Object (pick (ltb 0 breaks) rank.Break rank.Header)
 
 abbrev pub reader_behind : Settings → ℕ → Objects → Reader
 reader_behind t breaks x = record {
   at = x.at;
   settings = t;
   counts = record {
-    last = rank_behind breaks x.nested.object_count;
+    last = Some (rank_behind breaks x.nested.object_count);
     breaks = breaks;
     objects = x.nested.object_count;
     bonus = bonus_of x;
@@ -86,32 +90,32 @@ unfoldable pub end_in : List ℕ → Reader → Checked (Unit {0})
 end_in s reader = pick (leb (length s) reader.at) (good tt)
     (pick (eqb (word_at (drop reader.at s) 0 2) PL) (good tt) (end_of (record_of (drop reader.at s) reader.counts)))
 
-abbrev pub map_at : List ℕ → Settings → ℕ → Objects → Objects → Map
+abbrev pub map_at : List ℕ → Settings → BreakCount → Objects → Objects → Map
 map_at s t breaks passed all = record {
   end = all.at;
   settings = t;
   breaks = breaks;
   objects = all.nested.object_count;
-  first_start = first_start_of s breaks all.nested.object_count;
+  first_start = first_start_of s breaks.count all.nested.object_count;
   passed = passed;
 }
 
-abbrev pub map_ended : List ℕ → Settings → ℕ → Objects → Objects → Checked (Unit {0}) → OrRefusal Map
+abbrev pub map_ended : List ℕ → Settings → BreakCount → Objects → Objects → Checked (Unit {0}) → OrRefusal Map
 map_ended s t breaks passed all (refused n) = refused (refusal_at n all.at)
 map_ended s t breaks passed all (good _) = good (map_at s t breaks passed all)
 
-abbrev pub map_to : List ℕ → Settings → ℕ → Objects → Objects → OrRefusal Map
-map_to s t breaks passed all = map_ended s t breaks passed all (end_in s (reader_behind t breaks all))
+abbrev pub map_to : List ℕ → Settings → BreakCount → Objects → Objects → OrRefusal Map
+map_to s t breaks passed all = map_ended s t breaks passed all (end_in s (reader_behind t breaks.count all))
 
 abbrev pub then_read : (Objects → OrRefusal Map) → OrRefusal Objects → OrRefusal Map
 then_read go (refused r) = refused r
 then_read go (good x) = go x
 
-abbrev pub rest_of : List ℕ → Settings → ℕ → Objects → OrRefusal Map
+abbrev pub rest_of : List ℕ → Settings → BreakCount → Objects → OrRefusal Map
 rest_of s t breaks passed = then_read (map_to s t breaks passed) (ran_of true (max_objects - passed.nested.object_count) s passed)
 
-abbrev pub objects_of : List ℕ → Settings → ℕ → ℕ → OrRefusal Map
-objects_of s t breaks p = then_read (rest_of s t breaks) (ran_of true (min p max_objects) s (objects_at (objects_from breaks)))
+abbrev pub objects_of : List ℕ → Settings → BreakCount → ℕ → OrRefusal Map
+objects_of s t breaks p = then_read (rest_of s t breaks) (ran_of true (min p max_objects) s (objects_at (objects_from breaks.count)))
 
 -- ---- what that says of the file
 -- the state behind some objects
@@ -143,17 +147,17 @@ pub record NextIs (s : List ℕ) (from : Objects) (os : List Object) (n : ℕ) :
 pub record MapIs (s : List ℕ) (p : ℕ) (m : Map) : Type 0 where
   pub file : File
   pub chain : Chain s file
-  pub begun : no_rank < file.last
-  pub no_play : file.last ≤ object_rank
+  pub begun : place no_rank < place file.last
+  pub no_play : place file.last ≤ place object_rank
   pub behind : Behind s file.at
   pub end : m.end ≡ file.at
   pub settings : m.settings ≡ file.map.settings
-  pub breaks : m.breaks ≡ length file.map.breaks
+  pub breaks : m.breaks.count ≡ length file.map.breaks
   pub objects : m.objects ≡ length file.map.objects
   pub first : m.first_start ≡ start_of file.map.objects 0
   pub passed : StateOf (take p file.map.objects) m.passed
-  pub states : (n : ℕ) → n ≤ max_objects → RanTo (take n file.map.objects) (ran_of true n s (objects_at (objects_from m.breaks)))
-  pub nexts : (n : ℕ) → n < length file.map.objects → NextIs s (objects_at (objects_from m.breaks)) file.map.objects n
+  pub states : (n : ℕ) → n ≤ max_objects → RanTo (take n file.map.objects) (ran_of true n s (objects_at (objects_from m.breaks.count)))
+  pub nexts : (n : ℕ) → n < length file.map.objects → NextIs s (objects_at (objects_from m.breaks.count)) file.map.objects n
 
 -- the map of a file, or the refusal of the file, with no play before it
 pub data MapReadOf (s : List ℕ) (p : ℕ) : OrRefusal Map → Type 0 where

@@ -1,7 +1,6 @@
 // The attributes of a map's passed objects.
-ghost use Rattle.std.specs.Prelude.{◌≡◌, ◌≤◌, ◌<◌, ◌^◌};
+ghost use Rattle.std.specs.Prelude.{◌≡◌, ◌<◌, ◌^◌};
 ghost use Rattle.std.specs.Int.Signed.{mag};
-ghost use Rattle.rules.specs.Limits.{max_breaks};
 ghost use Rattle.map_reader.specs.Attributes.{last_start_of, drain_in, Complete, attributes_in};
 
 use crate::map::Map;
@@ -21,7 +20,6 @@ fn last_start(map: Map) -> f64
 
 #[tactic(auto, using(ruleset::proofs::Signs::kept), unfolding(crate::specs::Attributes::drain_in))]
 fn drain_in(s: &[u8], map: Map) -> i64
-    requires { map.breaks ≤ max_breaks }
     ensures { (result ≡ drain_in s.now map) × (mag result < 2 ^ 53) }
 {
     if map.objects == 0 {

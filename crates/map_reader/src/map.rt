@@ -1,40 +1,36 @@
 // The map of a file, with the state behind its first objects. What the loop over the objects does not take goes once through the checks of a
 // record, which give the number.
 ghost use Rattle.std.specs.Prelude.{◌≡◌, ◌≤◌, length, drop};
-ghost use Rattle.rules.specs.Limits.{max_breaks};
 ghost use Rattle.map_reader.specs.Objects.{Small};
 ghost use Rattle.map_reader.specs.Map.{objects_from, head_in, is_break, breaks_count, first_start_of, rank_behind, reader_behind, end_in, map_to, objects_of, MapReadOf};
 
-use crate::objects::{Objects, run};
-use map_file::file::{
-    BR, BREAK_RANK, Counts, HEADER_RANK, MH, OBJECT_RANK, PL, Reader, read_record,
-};
-use numbers::bits::f64_from_bits;
-use numbers::naturals::least;
+use crate::objects::{Objects, Walked, run};
+use map_file::file::{Counts, Rank, Reader, read_record};
 use numbers::words::word_at;
-use records::beatmap::{BreakPeriod, Settings};
+use records::beatmap::{BreakCount, BreakPeriod, Settings};
 use records::hit_object::HitObject;
 use records::map_record;
+use records::mark::Mark;
 use records::record::Record;
 use rules::refusal::{Refusal, Rule};
+use std::num::f64_from_bits_with_nan;
 
 // What stands in a map, and where it ends; `passed` is the state behind its first objects.
 #[derive(Clone, Copy)]
 pub struct Map {
     pub end: usize,
     pub settings: Settings,
-    pub breaks: u64,
+    pub breaks: BreakCount,
     pub objects: u64,
     pub first_start: f64,
     pub passed: Objects,
 }
 
 // Where the objects behind so many breaks begin.
-pub fn objects_from(breaks: u64) -> usize
-    requires { breaks ≤ max_breaks }
-    ensures { result ≡ objects_from breaks }
+pub fn objects_from(breaks: BreakCount) -> usize
+    ensures { result ≡ objects_from breaks.count }
 {
-    Settings::SIZE + breaks as usize * BreakPeriod::SIZE
+    Settings::SIZE + breaks.count as usize * BreakPeriod::SIZE
 }
 
 // The settings that a file starts with.
@@ -48,7 +44,7 @@ fn read_head(s: &[u8]) -> Result<Settings, Rule>
     if s.len() < 2 {
         return Err(Rule::Cut);
     }
-    if word_at(s, 0, 2) != MH {
+    if Mark::try_from(word_at(s, 0, 2)) != Ok(Mark::Header) {
         return Err(Rule::Mark);
     }
     match map_record::read_header(s)? {
@@ -66,57 +62,59 @@ fn is_break(s: &[u8], at: usize) -> bool
         return false;
     }
     let r = &s[at..];
-    if word_at(r, 0, 2) != BR {
+    if Mark::try_from(word_at(r, 0, 2)) != Ok(Mark::Break) {
         return false;
     }
     map_record::read_break(r).is_ok()
 }
 
 #[tactic(auto, using(crate::proofs::Heads::breaks_stop, crate::proofs::Heads::breaks_next, crate::proofs::Heads::breaks_end))]
-fn count_breaks(s: &[u8]) -> u64
-    ensures { (result ≡ breaks_count s.now) × (result ≤ max_breaks) }
+fn count_breaks(s: &[u8]) -> BreakCount
+    ensures { result.count ≡ breaks_count s.now }
 {
     for count in 0..BreakPeriod::MAX_COUNT {
-        if !is_break(s, objects_from(count)) {
-            return count;
+        let breaks = BreakCount { count };
+        if !is_break(s, objects_from(breaks)) {
+            return breaks;
         }
     }
-    BreakPeriod::MAX_COUNT
+    BreakCount {
+        count: BreakPeriod::MAX_COUNT,
+    }
 }
 
 // Each object has its start at the same place.
-fn first_start(s: &[u8], breaks: u64, objects: u64) -> f64
-    requires { breaks ≤ max_breaks }
-    ensures { result ≡ first_start_of s.now breaks objects }
+fn first_start(s: &[u8], breaks: BreakCount, objects: u64) -> f64
+    ensures { result ≡ first_start_of s.now breaks.count objects }
 {
     if objects == 0 {
         return 0.0;
     }
-    f64_from_bits(word_at(s, objects_from(breaks) + 2, 8))
+    f64_from_bits_with_nan(word_at(s, objects_from(breaks) + 2, 8))
 }
 
 // The place in the order of a map's last record.
-pub fn rank_behind(breaks: u64, objects: u64) -> u8
+pub fn rank_behind(breaks: u64, objects: u64) -> Rank
     ensures { result ≡ rank_behind breaks objects }
 {
     if 0 < objects {
-        return OBJECT_RANK;
+        return Rank::Object;
     }
     if 0 < breaks {
-        return BREAK_RANK;
+        return Rank::Break;
     }
-    HEADER_RANK
+    Rank::Header
 }
 
-fn reader_behind(settings: Settings, breaks: u64, all: Objects) -> Reader
-    ensures { result ≡ reader_behind settings breaks all }
+fn reader_behind(settings: Settings, breaks: BreakCount, all: Objects) -> Reader
+    ensures { result ≡ reader_behind settings breaks.count all }
 {
     Reader {
         at: all.at,
         settings,
         counts: Counts {
-            last: rank_behind(breaks, all.nested.object_count),
-            breaks,
+            last: Some(rank_behind(breaks.count, all.nested.object_count)),
+            breaks: breaks.count,
             objects: all.nested.object_count,
             bonus: all.score.legacy_bonus_score.0,
         },
@@ -132,7 +130,7 @@ fn check_end(s: &[u8], reader: Reader) -> Result<(), Rule>
     if s.len() <= at {
         return Ok(());
     }
-    if word_at(&s[at..], 0, 2) == PL {
+    if Mark::try_from(word_at(&s[at..], 0, 2)) == Ok(Mark::Play) {
         return Ok(());
     }
     read_record(&s[at..], reader.counts)?;
@@ -143,11 +141,10 @@ fn check_end(s: &[u8], reader: Reader) -> Result<(), Rule>
 fn map_to(
     s: &[u8],
     settings: Settings,
-    breaks: u64,
+    breaks: BreakCount,
     passed: Objects,
     all: Objects,
 ) -> Result<Map, Refusal>
-    requires { breaks ≤ max_breaks }
     ensures { result ≡ map_to s.now settings breaks passed all }
 {
     let end = all.at;
@@ -163,13 +160,18 @@ fn map_to(
     })
 }
 
-fn read_objects(s: &[u8], settings: Settings, breaks: u64, passed: u64) -> Result<Map, Refusal>
-    requires { (breaks ≤ max_breaks) × (objects_from breaks ≤ length s.now) }
+fn read_objects(
+    s: &[u8],
+    settings: Settings,
+    breaks: BreakCount,
+    passed: u64,
+) -> Result<Map, Refusal>
+    requires { objects_from breaks.count ≤ length s.now }
     ensures { result ≡ objects_of s.now settings breaks passed }
 {
-    let limit = least(passed, HitObject::MAX_COUNT);
-    let state = run(s, Objects::new(objects_from(breaks)), limit, true)?;
-    let all = run(s, state, HitObject::MAX_COUNT, true)?;
+    let limit = passed.min(HitObject::MAX_COUNT);
+    let state = run::<Walked>(s, Objects::new(objects_from(breaks)), limit)?;
+    let all = run::<Walked>(s, state, HitObject::MAX_COUNT)?;
     map_to(s, settings, breaks, state, all)
 }
 

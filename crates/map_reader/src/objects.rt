@@ -1,5 +1,5 @@
 // The objects of a map, one after the other: each steps the running state.
-ghost use Rattle.std.specs.Prelude.{◌≡◌, ◌+◌, ◌-◌, ◌≤◌, ◌<◌, ◌^◌, length, true};
+ghost use Rattle.std.specs.Prelude.{◌≡◌, ◌+◌, ◌-◌, ◌≤◌, ◌<◌, ◌^◌, length, Bool, true, false};
 ghost use Rattle.rules.specs.Limits.{max_objects};
 ghost use Rattle.records.specs.Objects.{spinner as spinnerKind};
 ghost use Rattle.simulator.specs.Hits.{hits_of};
@@ -11,7 +11,7 @@ ghost use Rattle.map_reader.specs.Objects.{hit_as, objects_at, Room, Small, step
 use numbers::words::word_at;
 use records::hit_object::{HitObject, HitObjectKind, Spinner};
 use records::record::Record;
-use records::{hit_object, object_record};
+use records::{mark, object_record};
 use rules::refusal::{Refusal, Rule};
 use simulator::legacy_score::NestedScorePerObject;
 use simulator::legacy_score_simulator::OsuLegacyScoreSimulator;
@@ -34,15 +34,35 @@ pub enum Stepped {
     OverBonus,
 }
 
-// A spinner's step: with the bonus of its half spins, or without, as a circle's.
-fn spun(score: OsuLegacyScoreSimulator, spinner: Spinner, walks: bool) -> OsuLegacyScoreSimulator
-    requires { Within (max_objects - 1) score }
-    ensures { result ≡ walk 1 score (hits_of (hit_as walks (spinnerKind spinner.duration))) }
-{
-    if walks {
-        return score.spinner(spinner);
+// A spinner's step; `walks` says whether its half spins are walked.
+pub trait SpinnerStep {
+    ghost walks: { Bool };
+
+    fn step(score: OsuLegacyScoreSimulator, spinner: Spinner) -> OsuLegacyScoreSimulator
+        requires { Within (max_objects - 1) score }
+        ensures { result ≡ walk 1 score (hits_of (hit_as walks (spinnerKind spinner.duration))) };
+}
+
+// With the bonus of the half spins.
+pub struct Walked;
+
+impl SpinnerStep for Walked {
+    ghost walks = { true };
+
+    fn step(score: OsuLegacyScoreSimulator, spinner: Spinner) -> OsuLegacyScoreSimulator {
+        score.spinner(spinner)
     }
-    score.circle()
+}
+
+// Without, as a circle's.
+pub struct Unwalked;
+
+impl SpinnerStep for Unwalked {
+    ghost walks = { false };
+
+    fn step(score: OsuLegacyScoreSimulator, _spinner: Spinner) -> OsuLegacyScoreSimulator {
+        score.circle()
+    }
 }
 
 impl Objects {
@@ -57,7 +77,8 @@ impl Objects {
         }
     }
 
-    // Three functions read the three kinds, so that each has the reading and the step of its own in one piece.
+    // Three functions read the three kinds, so that each has the reading and the step of its own in one piece: one for all takes 3 to 4 times the
+    // instructions.
     #[tactic(auto, using(crate::proofs::Stepping::step_read))]
     fn with_circle(self, r: &[u8]) -> Stepped
         requires { Room self × (self.at + length r.now < 2 ^ 64) }
@@ -103,9 +124,9 @@ impl Objects {
     }
 
     #[tactic(auto, using(crate::proofs::Stepping::step_read, crate::proofs::Stepping::walk_legacy))]
-    fn with_spinner(self, r: &[u8], walks: bool) -> Stepped
+    fn with_spinner<S: SpinnerStep>(self, r: &[u8]) -> Stepped
         requires { Room self × (self.at + length r.now < 2 ^ 64) }
-        ensures { result ≡ stepped_by walks self (spinner_of r.now) }
+        ensures { result ≡ stepped_by S.walks self (spinner_of r.now) }
     {
         let Ok((Record::Object(object), size)) = object_record::read_spinner(r) else {
             return Stepped::Stop;
@@ -116,7 +137,7 @@ impl Objects {
         };
         let score = self.score;
         let nested = self.nested;
-        let next = spun(score, spinner, walks);
+        let next = S::step(score, spinner);
         if HitObject::MAX_BONUS < next.legacy_bonus_score.0 {
             return Stepped::OverBonus;
         }
@@ -130,9 +151,9 @@ impl Objects {
 
     // The shortest object has the size of a circle.
     #[tactic(auto, using(map_file::proofs::Steps::rest_is, crate::proofs::Stepping::circle_either, crate::proofs::Stepping::slider_either), unfolding(crate::specs::Objects::next_of, records::specs::Records::object_of))]
-    fn with_next(self, s: &[u8], walks: bool) -> Stepped
+    fn with_next<S: SpinnerStep>(self, s: &[u8]) -> Stepped
         requires { Room self × (self.at ≤ length s.now) }
-        ensures { result ≡ next_of walks s.now self }
+        ensures { result ≡ next_of S.walks s.now self }
     {
         let at = self.at;
         if s.len() < at + HitObject::CIRCLE_SIZE {
@@ -140,28 +161,29 @@ impl Objects {
         }
         let r = &s[at..];
         let mark = word_at(r, 0, 2);
-        if mark == hit_object::CI {
+        if mark == mark::CI {
             return self.with_circle(r);
         }
-        if mark == hit_object::SL {
+        if mark == mark::SL {
             return self.with_slider(r);
         }
-        if mark == hit_object::SP {
-            return self.with_spinner(r, walks);
+        if mark == mark::SP {
+            return self.with_spinner::<S>(r);
         }
         Stepped::Stop
     }
 }
 
-// Reads on until `limit` objects are read, or as far as there are objects. Where spinners are not walked, the state has no bonus of theirs.
+// Reads on until `limit` objects are read, or as far as there are objects, which the state counts. Where spinners are not walked, it has no bonus of
+// theirs.
 #[tactic(auto, using(crate::proofs::Running::running_less, crate::proofs::Running::running_over, crate::proofs::Running::running_stop, crate::proofs::Running::running_end))]
-pub fn run(s: &[u8], from: Objects, limit: u64, walks: bool) -> Result<Objects, Refusal>
+pub fn run<S: SpinnerStep>(s: &[u8], from: Objects, limit: u64) -> Result<Objects, Refusal>
     requires { Small s.now from × (limit ≤ max_objects) }
-    ensures { result ≡ ran_of walks (limit - from.nested.object_count) s.now from }
+    ensures { result ≡ ran_of S.walks (limit - from.nested.object_count) s.now from }
 {
     let mut state = from;
     while state.nested.object_count < limit {
-        match state.with_next(s, walks) {
+        match state.with_next::<S>(s) {
             Stepped::Next(next) => {
                 state = next;
             }

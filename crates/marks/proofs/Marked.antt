@@ -12,11 +12,12 @@ use borrow.Author.Tests.{ltb-true, ltb-false}
 use lib.Dec.{ltb}
 use lib.ListN.{length, take, drop, get_or, set, replicate, length-take, length-set, length-replicate, get_or-replicate}
 use lib.Seq.{get_or-set_same, get_or-set_other}
-use Rattle.rules.specs.Limits.{max_objects, max_breaks}
+use Rattle.rules.specs.Limits.{max_objects}
 use Rattle.rules.proofs.All.{All, all_out}
 use Rattle.records.specs.Objects.{Object}
 use Rattle.records.specs.Records.{header, break, object, play}
 use Rattle.play_state.specs.declared.Play.{Play}
+use Rattle.map_file.specs.Order.{place}
 use Rattle.map_file.specs.File.{File, counts_of, with_record}
 use Rattle.map_file.proofs.Reading.{Chain, start, longer, found_ordered, chain_inside}
 use Rattle.map_file.proofs.Room.{Begun, record_begun}
@@ -48,21 +49,18 @@ mark_stands : (objects : ℕ) (q : Play) → mark_before objects q * stride_of o
 mark_stands objects q = div-mul-le_self (passed_of objects q) (stride_of objects)
 
 -- ---- the objects begin within the file
-chain_breaks : (s : List ℕ) (f : File) → Chain s f → 0 < f.last → f.last ≤ 3 → objects_from (length f.map.breaks) ≤ f.at
+chain_breaks : (s : List ℕ) (f : File) → Chain s f → 0 < place f.last → place f.last ≤ 3 → objects_from (length f.map.breaks) ≤ f.at
 unfolding with_record counts_of
 chain_breaks s f start b h = absurd (omega (arith, b))
-chain_breaks s f (longer {f = g} {r = (header t, n)} c l e) b h = let z = (chain_standing s f (longer c l e)).place (omega arith) (omega arith) in omega (arith, z)
-chain_breaks s f (longer {f = g} {r = (break x, n)} c l e) b h = let z = (chain_standing s f (longer c l e)).place (omega arith) (omega arith) in omega (arith, z)
+chain_breaks s f (longer {f = g} {r = (header t, n)} c l e) b h = let z = (chain_standing s f (longer c l e)).stands (omega arith) (omega arith) in omega (arith, z)
+chain_breaks s f (longer {f = g} {r = (break x, n)} c l e) b h = let z = (chain_standing s f (longer c l e)).stands (omega arith) (omega arith) in omega (arith, z)
 chain_breaks s f (longer {f = g} {r = (object o, n)} c l e) b h =
-    let begun : 0 < g.last = all_out (subst (All (λ x. Begun (counts_of g) x.0)) e (record_begun (drop g.at s) (counts_of g))) in
+    let begun : 0 < place g.last = all_out (subst (All (λ x. Begun (counts_of g) x.0)) e (record_begun (drop g.at s) (counts_of g))) in
     let z = chain_breaks s g c begun (found_ordered s g (object o, n) e) in
     omega (arith, z)
 chain_breaks s f (longer {f = g} {r = (play p, n)} c l e) b h = absurd (omega (arith, h))
 
 -- ---- the states behind the objects of a map
-state_out : {os : List Object} {x : Objects} → RanTo os (good x) → StateOf os x
-state_out (to k) = k
-
 data IsTo : OrRefusal Objects → Type 0 where
   is_to : {x : Objects} → IsTo (good x)
 
@@ -86,16 +84,13 @@ module _ {s : List ℕ} {m : Map} (w : IsMap s m) where
   pub few_objects : m.objects ≤ max_objects
   few_objects = let e = w.is.objects in let h = (limits w.is).few_objects in omega (arith, e, h)
 
-  pub few_breaks : m.breaks ≤ max_breaks
-  few_breaks = let e = w.is.breaks in let h = (limits w.is).few_breaks in omega (arith, e, h)
-
   pub small_first : Small s (first_of m)
   small_first =
       let f = w.is.file in
       let e = w.is.breaks in
       let from = chain_breaks s f w.is.chain w.is.begun w.is.no_play in
       let to = chain_inside s f w.is.chain in
-      small_start s (objects_from m.breaks) (omega (arith, e, from, to))
+      small_start s (objects_from m.breaks.count) (omega (arith, e, from, to))
 
   -- what a run comes to
   record Reached (b : Bool) (n : ℕ) (r : OrRefusal Objects) : Type 0 where
@@ -260,7 +255,7 @@ module _ {s : List ℕ} {p : ℕ} {m : Map} (k : MapIs s p m) (b : Bool) (q : Pl
   complete_there =
       let h = complete map-passed in
       let few = there_small.few in
-      (h.0, h.1, within_more _ _ _ few there_small.score, counted_more _ _ _ few there_small.nested)
+      (h.0, within_more _ _ _ few there_small.score, counted_more _ _ _ few there_small.nested)
 
   attributes_there : attributes_in s (with_passed m there) ≡ score_attributes_at k.file.map q.passed_objects
   unfolding map-passed

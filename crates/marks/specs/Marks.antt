@@ -31,7 +31,7 @@ state_or w s from count = state_in from (ran_of w (count - from.nested.object_co
 
 -- before the first object
 abbrev pub first_of : Map → Objects
-first_of m = objects_at (objects_from m.breaks)
+first_of m = objects_at (objects_from m.breaks.count)
 
 -- the state behind i strides of objects, for which no half spin is walked
 abbrev pub IsMark : List ℕ → Map → ℕ → Objects → Type 0

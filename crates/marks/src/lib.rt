@@ -9,17 +9,24 @@ ghost use Rattle.marks.specs.Marks.{stride_of, state_or, IsMap, MarksOf, mark_be
 
 use map_reader::attributes::attributes_of;
 use map_reader::map::{Map, objects_from};
-use map_reader::objects::{Objects, run};
-use numbers::naturals::least;
+use map_reader::objects::{Objects, SpinnerStep, Unwalked, Walked, run};
 use play_score::{PlayScore, score_on};
 use play_state::Play;
 use rules::refusal::Rule;
 use simulator::attributes::ScoreAttributes;
 
-// The i-th is behind i strides of objects.
+// The i-th is behind i strides of objects. As many as there may be, since the project takes no heap.
 #[derive(Clone, Copy)]
 pub struct Marks {
     pub states: [Objects; 128],
+}
+
+// A file and its map.
+#[derive(Clone, Copy)]
+pub struct MapFile<'a> {
+    pub bytes: &'a [u8],
+    pub map: Map,
+    ghost read: { ∥ IsMap bytes.now map ∥₁ },
 }
 
 // The objects from one mark to the next: few enough for 128 marks.
@@ -30,58 +37,62 @@ fn stride_of(objects: u64) -> u64
 }
 
 // The state behind `count` objects, from one before it.
-fn state_at(s: &[u8], from: Objects, count: u64, walks: bool) -> Objects
+fn state_at<S: SpinnerStep>(s: &[u8], from: Objects, count: u64) -> Objects
     requires { Small s.now from × (count ≤ max_objects) }
-    ensures { result ≡ state_or walks s.now from count }
+    ensures { result ≡ state_or S.walks s.now from count }
 {
-    run(s, from, count, walks).unwrap_or(from)
-}
-
-pub fn marks_of(s: &[u8], map: Map) -> Marks
-    requires { IsMap s.now map }
-    ensures { MarksOf s.now map result }
-{
-    let stride = stride_of(map.objects);
-    let mut state = Objects::new(objects_from(map.breaks));
-    let mut states = [state; 128];
-    let count = (map.objects / stride) as usize + 1;
-    for i in 1..count {
-        state = state_at(s, state, i as u64 * stride, false);
-        states[i] = state;
-    }
-    Marks { states }
+    run::<S>(s, from, count).unwrap_or(from)
 }
 
 // The last mark that is not behind the objects that a play passed.
 pub fn mark_before(objects: u64, play: Play) -> usize
     ensures { (result ≡ mark_before objects play) × (result < 128) }
 {
-    (least(play.passed_objects as u64, objects) / stride_of(objects)) as usize
+    (u64::from(play.passed_objects).min(objects) / stride_of(objects)) as usize
 }
 
-// The attributes of a play's passed objects, from a state before it.
-fn attributes_at(s: &[u8], map: Map, before: Objects, play: Play, walks: bool) -> ScoreAttributes
-    requires { IsMap s.now map × StateBefore walks s.now map play before }
-    ensures { result ≡ attributes_from walks s.now map before play }
-{
-    let count = least(play.passed_objects as u64, map.objects);
-    let passed = state_at(s, before, count, walks);
-    attributes_of(s, Map { passed, ..map })
-}
+impl MapFile<'_> {
+    pub fn marks(&self) -> Marks
+        ensures { MarksOf self.now.bytes.now self.now.map result }
+    {
+        let map = self.map;
+        let stride = stride_of(map.objects);
+        let mut state = Objects::new(objects_from(map.breaks));
+        let mut states = [state; 128];
+        let count = (map.objects / stride) as usize + 1;
+        // i is the number of the mark, from which its objects are counted.
+        for i in 1..count {
+            state = state_at::<Unwalked>(self.bytes, state, i as u64 * stride);
+            states[i] = state;
+        }
+        Marks { states }
+    }
 
-// The attributes of a play's passed objects without their bonus, from a state before it.
-pub fn attributes_from(s: &[u8], map: Map, before: Objects, play: Play) -> ScoreAttributes
-    requires { IsMap s.now map × StateBefore false s.now map play before }
-    ensures { result ≡ attributes_from false s.now map before play }
-{
-    attributes_at(s, map, before, play, false)
-}
+    // The attributes of a play's passed objects, from a state before it.
+    fn attributes_at<S: SpinnerStep>(&self, before: Objects, play: Play) -> ScoreAttributes
+        requires { StateBefore S.walks self.now.bytes.now self.now.map play before }
+        ensures { result ≡ attributes_from S.walks self.now.bytes.now self.now.map before play }
+    {
+        let map = self.map;
+        let count = u64::from(play.passed_objects).min(map.objects);
+        let passed = state_at::<S>(self.bytes, before, count);
+        attributes_of(self.bytes, Map { passed, ..map })
+    }
 
-// A play on a map, from its first object.
-pub fn score_anew(s: &[u8], map: Map, play: Play) -> Result<PlayScore, Rule>
-    requires { IsMap s.now map }
-    ensures { result ≡ scored_anew s.now map play }
-{
-    let first = Objects::new(objects_from(map.breaks));
-    score_on(play, attributes_at(s, map, first, play, true))
+    // The attributes of a play's passed objects without their bonus, from a state before it.
+    pub fn attributes_from(&self, before: Objects, play: Play) -> ScoreAttributes
+        requires { StateBefore false self.now.bytes.now self.now.map play before }
+        ensures { result ≡ attributes_from false self.now.bytes.now self.now.map before play }
+    {
+        self.attributes_at::<Unwalked>(before, play)
+    }
+
+    // A play on the map, from its first object.
+    pub fn score_anew(&self, play: Play) -> Result<PlayScore, Rule>
+        ensures { result ≡ scored_anew self.now.bytes.now self.now.map play }
+    {
+        let map = self.map;
+        let first = Objects::new(objects_from(map.breaks));
+        score_on(play, self.attributes_at::<Walked>(first, play))
+    }
 }

@@ -6,10 +6,10 @@ ghost use Rattle.miss_calc.specs.ScoreBased.{combo_portion_of, score_at_combo_of
 
 use crate::counts::{total_hits, total_imperfect_hits};
 use numbers::minmax::{max, min};
-use numbers::rounding::float;
-use play_state::{GameMods, OsuHitResults};
+use play_state::{GameMod, GameMods, OsuHitResults};
 use simulator::attributes::OsuDifficultyAttributes;
 use square_root::powf_2_5;
+use std::num::nearest_u64_to_f64;
 
 // What the estimate leans on: the play's accuracy, combo, hits and modifiers, and the attributes of the passed objects.
 #[derive(Clone, Copy)]
@@ -44,7 +44,7 @@ pub fn cap_slider_breaks(count: f64, misses: u16, attrs: OsuDifficultyAttributes
     let possible = max_possible_slider_breaks(attrs, combo);
     let slider_breaks = count - f64::from(misses);
     if slider_breaks > f64::from(possible) {
-        float(u64::from(misses) + u64::from(possible))
+        (u64::from(misses) + u64::from(possible)) as f64
     } else {
         count
     }
@@ -62,20 +62,24 @@ fn get_legacy_score_multiplier(mods: GameMods) -> f64
     ensures { result ≡ score_multiplier_of mods }
 {
     let rate = mods.clock_rate;
-    let (no_fail, hard_rock, double_time) = if mods.sv2() {
+    let (no_fail, hard_rock, double_time) = if mods.has(GameMod::ScoreV2) {
         (1.0, 1.1, 1.2)
     } else {
         (0.5, 1.06, 1.12)
     };
-    let nf = times_if(1.0, mods.nf(), no_fail);
-    let ez = times_if(nf, mods.ez(), 0.5);
+    let nf = times_if(1.0, mods.has(GameMod::NoFail), no_fail);
+    let ez = times_if(nf, mods.has(GameMod::Easy), 0.5);
     let slow = times_if(ez, rate < 1.0, 0.3);
-    let hd = times_if(slow, mods.hd(), 1.06);
-    let hr = times_if(hd, mods.hr(), hard_rock);
+    let hd = times_if(slow, mods.has(GameMod::Hidden), 1.06);
+    let hr = times_if(hd, mods.has(GameMod::HardRock), hard_rock);
     let fast = times_if(hr, rate > 1.0, double_time);
-    let fl = times_if(fast, mods.fl(), 1.12);
-    let so = times_if(fl, mods.so(), 0.9);
-    times_if(so, mods.rx() | mods.ap(), 0.0)
+    let fl = times_if(fast, mods.has(GameMod::Flashlight), 1.12);
+    let so = times_if(fl, mods.has(GameMod::SpunOut), 0.9);
+    times_if(
+        so,
+        mods.has(GameMod::Relax) | mods.has(GameMod::Autopilot),
+        0.0,
+    )
 }
 
 // The combo portion of a score follows an arithmetic progression over the objects.
@@ -98,7 +102,7 @@ fn combo_product(combo: u32) -> f64
     if combo == 1 {
         return -1.0;
     }
-    float(u64::from(combo.saturating_sub(2)) * u64::from(combo))
+    nearest_u64_to_f64(u64::from(combo.saturating_sub(2)) * u64::from(combo))
 }
 
 impl OsuLegacyScoreMissCalculator {
@@ -128,7 +132,7 @@ impl OsuLegacyScoreMissCalculator {
         combo_product(combo) / max(f64::from(combo) + 2.0 * (combo_score - 1.0), 1.0)
     }
 
-    // The harsh combo-based count: the power 2.5 of how often the combo went into a full one.
+    // The harsh combo-based count: the power 2.5 of how often the combo went into a full one. The Rust has it beside the one of the calculator.
     #[tactic(auto, unfolding(crate::specs::ScoreBased::broken_miss_count_of, numbers::proofs::Literals::of_bits, numbers::proofs::Literals::of_int, numbers::proofs::Literals::round))]
     fn broken_miss_count(self) -> f64
         ensures { result ≡ broken_miss_count_of self }

@@ -1,4 +1,5 @@
-// Rust's f64::max, f64::min and f64::clamp.
+// Rust's f64::max, f64::min and f64::clamp. The first two differ in one comparison, and would be longer with a closure for it and the closure's contract.
+// std's leave the sign of a zero open, and its `clamp` asks for bounds in order.
 #![tactic(auto, unfolding(crate::specs::MinMax::max_of, crate::specs::MinMax::min_of, crate::specs::MinMax::clamp_of))]
 
 ghost use Rattle.std.specs.Prelude.{◌≡◌};

@@ -1,8 +1,7 @@
-// Floats to whole numbers, to the nearest with ties to the even one and cut toward zero, and whole numbers to floats.
+// Floats to whole numbers, to the nearest with ties to the even one and cut toward zero.
 ghost use Rattle.std.specs.Prelude.{◌≡◌, ◌*◌, ◌^◌, ◌<◌, ◌≤◌, min};
 ghost use Rattle.std.specs.Float.Ieee as Ieee;
 ghost use Rattle.std.specs.Float.Ieee.Nearest.{closest};
-ghost use Rattle.numbers.specs.Floats.{whole};
 ghost use Rattle.numbers.specs.Rounding.{round_ties_even_i32, saturated};
 
 use super::bits::{Parts, split};
@@ -102,16 +101,5 @@ pub fn cut(x: f64) -> u64
         }
     } else {
         0
-    }
-}
-
-// The f64 nearest to n, Rust's `n as f64`. A u32 takes one instruction, and nearly every number here is one.
-pub fn float(n: u64) -> f64
-    ensures { result ≡ whole n }
-{
-    if n < 0x1_0000_0000 {
-        (n as u32) as f64
-    } else {
-        std::num::nearest_u64_to_f64(n)
     }
 }

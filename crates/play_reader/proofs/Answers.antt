@@ -1,4 +1,5 @@
 -- The answers of the calls on a whole file, from its map and the end of its plays.
+use Rattle.std.specs.Prelude.{Some}
 use Rattle.rules.specs.Refusals.{good}
 use mathlib.Core.Path.{◌≡◌, sym, ap, ◌∙◌}
 use mathlib.Core.List.{List}
@@ -25,10 +26,10 @@ use Rattle.play_reader.specs.View.{last_rank, reader_in, answer_of, simulated_of
 use Rattle.play_reader.proofs.Playing.{reached_end, end_is}
 
 module _ {s : List ℕ} {p : ℕ} {m : Map} (k : MapIs s p m) (f : File) (w : Reached k f) (h : length s ≤ f.at) where
-  rank_is : last_rank (length s) m ≡ f.last
+  rank_is : Some (last_rank (length s) m) ≡ f.last
   rank_is = go w.place
     where
-      go : Place k.file f → last_rank (length s) m ≡ f.last
+      go : Place k.file f → Some (last_rank (length s) m) ≡ f.last
       go (first e) =
           let end = k.end in
           let at = ap (λ (g : File). g.at) e in

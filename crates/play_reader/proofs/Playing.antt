@@ -13,14 +13,18 @@ use Rattle.rules.specs.Refusals.{good, refused, ◌>>=◌, ◌>>◌, refuse◌wh
 use Rattle.rules.specs.declared.refusal.Rule.{Rule}
 use Rattle.rules.specs.declared.refusal.Refusal.{Refusal}
 use Rattle.rules.proofs.All.{All, that, all_any, all_when, all_out}
+use Rattle.records.specs.Marks.{MH, BR, CI, SL, SP, PL, mark_of}
+use Rattle.records.specs.declared.mark.Mark.TheVariants as mark
+use Rattle.records.proofs.Marks.{word_is}
 use Rattle.records.specs.Objects.{bonus}
-use Rattle.records.specs.Records.{Content, header, break, object, play, FoundRecord, content_view, record_read, CI, SL, SP, play_of}
+use Rattle.records.specs.Records.{Content, header, break, object, play, FoundRecord, content_view, record_read, play_of}
 use Rattle.records.specs.declared.record.Record.{Record}
 use Rattle.records.specs.declared.record.Record.TheVariants as record_case
 use Rattle.play_state.specs.declared.Play.{Play}
-use Rattle.map_file.specs.Order.{MH, BR, PL, rank_of, in_order, over_bonus, content_bonus, body_of, record_of}
+use Rattle.map_file.specs.Order.{no_rank, header_rank, break_rank, object_rank, play_rank, place, rank_of, in_order, over_bonus, content_bonus, body_of, record_of}
 use Rattle.map_file.specs.File.{File, accepted, refused_at, counts_of, with_record, follow, ended, file_from, file_of}
 use Rattle.map_file.specs.declared.file.Counts.{Counts}
+use Rattle.map_file.proofs.Ranks.{placed_some}
 use Rattle.map_file.proofs.Reading.{longer, chain_on, chain_inside, on_stop, on_end, found_at, ended_is}
 use Rattle.map_reader.specs.Map.{MapIs, MapReadOf, is, refuses as map_refuses, Behind, nothing, plays}
 use Rattle.map_reader.specs.declared.map.Map.{Map}
@@ -95,19 +99,19 @@ module _ (r : List ℕ) where
   unfolding play_record ◌>>◌ refuse◌when◌
   in_cut h = rw (lt-ltb (length r) 2 h)
 
-  pub in_other : 2 ≤ length r → (word_at r 0 2 ≡ PL → ⊥) → play_in r ≡ refused MARK
+  pub in_other : 2 ≤ length r → (mark_of (word_at r 0 2) ≡ good mark.Play → ⊥) → play_in r ≡ refused MARK
   unfolding play_record ◌>>◌ refuse◌when◌
-  in_other two h = rw (le-ltb (length r) 2 two, ne_eqb (word_at r 0 2) PL h)
+  in_other two h = rw (le-ltb (length r) 2 two, ne_eqb (word_at r 0 2) PL (λ e. h (ap mark_of e)))
 
-  pub in_play : 2 ≤ length r → word_at r 0 2 ≡ PL → play_in r ≡ play_taken (record_read (play_of r))
+  pub in_play : 2 ≤ length r → mark_of (word_at r 0 2) ≡ good mark.Play → play_in r ≡ play_taken (record_read (play_of r))
   unfolding play_record ◌>>◌ refuse◌when◌
-  in_play two h = rw (le-ltb (length r) 2 two, h) (taken (play_of r))
+  in_play two h = rw (le-ltb (length r) 2 two, word_is (word_at r 0 2) mark.Play h) (taken (play_of r))
 
 -- ---- the next record behind a map or a play
-other_rank : (m : ℕ) → eqb m PL ≡ false → not (in_order 4 (rank_of m)) ≡ true
+other_rank : (m : ℕ) → eqb m PL ≡ false → not (in_order play_rank (rank_of m)) ≡ true
 other_rank m e = go (eqb m MH) (eqb m BR) (eqb m CI) (eqb m SL) (eqb m SP) (eqb m PL) e
   where
-    go : (a b c d f g : Bool) → g ≡ false → not (in_order 4 (pick a 1 (pick b 2 (pick c 3 (pick d 3 (pick f 3 (pick g 4 0))))))) ≡ true
+    go : (a b c d f g : Bool) → g ≡ false → not (in_order play_rank (pick a header_rank (pick b break_rank (pick c object_rank (pick d object_rank (pick f object_rank (pick g play_rank no_rank))))))) ≡ true
     go true b c d f g e = refl
     go false true c d f g e = refl
     go false false true d f g e = refl
@@ -132,34 +136,34 @@ free c h (good f) a = go f (all_out a)
     go (break _, n) x8 = elim x8 [ ]
     go (object _, n) x9 = elim x9 [ ]
 
-order : (r : List ℕ) (c : Counts) → c.last ≡ 4 → 2 ≤ length r → not (in_order 4 (rank_of (word_at r 0 2))) ≡ true → record_of r c ≡ refused MARK
+order : (r : List ℕ) (c : Counts) → c.last ≡ play_rank → 2 ≤ length r → not (in_order play_rank (rank_of (word_at r 0 2))) ≡ true → record_of r c ≡ refused MARK
 unfolding record_of ◌>>◌ refuse◌when◌
 order r c l h e = simp (le-ltb (length r) 2 h, l, e)
 
-mark : (r : List ℕ) → 2 ≤ length r → eqb (word_at r 0 2) PL ≡ false → play_record r ≡ refused MARK
+other_mark : (r : List ℕ) → 2 ≤ length r → eqb (word_at r 0 2) PL ≡ false → play_record r ≡ refused MARK
 unfolding play_record ◌>>◌ refuse◌when◌
-mark r h e = simp (le-ltb (length r) 2 h, e)
+other_mark r h e = simp (le-ltb (length r) 2 h, e)
 
 module _ (r : List ℕ) (c : Counts) (low : c.bonus ≤ max_bonus) where
   two_bytes : length r < 2 → record_of r c ≡ play_record r
   unfolding record_of play_record ◌>>◌ refuse◌when◌
   two_bytes h = rw (lt-ltb (length r) 2 h)
 
-  by_mark : 0 < c.last → c.last ≤ 4 → 2 ≤ length r → word_at r 0 2 ≡ PL → record_of r c ≡ play_record r
+  by_mark : 0 < place c.last → place c.last ≤ 4 → 2 ≤ length r → word_at r 0 2 ≡ PL → record_of r c ≡ play_record r
   unfolding record_of play_record body_of ◌>>◌ refuse◌when◌
-  by_mark b o h m = simp (le-ltb (length r) 2 h, m, lt-ltb 0 c.last b, le-leb c.last 4 o) (free c low (play_of r) (body_only r))
+  by_mark b o h m = simp (le-ltb (length r) 2 h, m, lt-ltb 0 (place c.last) b, le-leb (place c.last) 4 o) (free c low (play_of r) (body_only r))
 
-  by_other : c.last ≡ 4 → 2 ≤ length r → eqb (word_at r 0 2) PL ≡ false → record_of r c ≡ play_record r
+  by_other : c.last ≡ play_rank → 2 ≤ length r → eqb (word_at r 0 2) PL ≡ false → record_of r c ≡ play_record r
   by_other l h e = found ∙ sym told
     where
       found : record_of r c ≡ refused MARK
       found = order r c l h (other_rank (word_at r 0 2) e)
 
       told : play_record r ≡ refused MARK
-      told = mark r h e
+      told = other_mark r h e
 
   -- behind a play no other record can stand; behind a map a play does
-  next_record : 0 < c.last → c.last ≤ 4 → ((word_at r 0 2 ≡ PL → ⊥) → c.last ≡ 4) → record_of r c ≡ play_record r
+  next_record : 0 < place c.last → place c.last ≤ 4 → ((word_at r 0 2 ≡ PL → ⊥) → c.last ≡ play_rank) → record_of r c ≡ play_record r
   next_record b o h = by_length (ltb (length r) 2) refl
     where
       by_play : 2 ≤ length r → (x : Bool) → eqb (word_at r 0 2) PL ≡ x → record_of r c ≡ play_record r
@@ -176,12 +180,12 @@ module _ {s : List ℕ} {p : ℕ} {m : Map} (k : MapIs s p m) where
   reached_start = record { chain = k.chain; map = refl; place = first refl }
 
   module _ {f : File} (w : Reached k f) where
-    pub begun : 0 < f.last
+    pub begun : 0 < place f.last
     begun = go w.place
       where
-        go : Place k.file f → 0 < f.last
-        go (first e) = subst (λ (g : File). 0 < g.last) (sym e) k.begun
-        go (later e h) = omega (arith, e)
+        go : Place k.file f → 0 < place f.last
+        go (first e) = subst (λ (g : File). 0 < place g.last) (sym e) k.begun
+        go (later e h) = let z = ap place e in omega (arith, z)
 
     low : bonus f.map.objects ≤ max_bonus
     low = subst (λ n. bonus n.objects ≤ max_bonus) (sym w.map) (limits k).low_bonus
@@ -191,11 +195,11 @@ module _ {s : List ℕ} {p : ℕ} {m : Map} (k : MapIs s p m) where
       unfolding counts_of
       next_is = next_record (drop f.at s) (counts_of f) low begun (go_last w.place) (go w.place)
         where
-          go_last : Place k.file f → f.last ≤ 4
-          go_last (first e) = let l = k.no_play in let z = ap (λ (g : File). g.last) e in omega (arith, l, z)
-          go_last (later e q) = omega (arith, e)
+          go_last : Place k.file f → place f.last ≤ 4
+          go_last (first e) = let l = k.no_play in let z = ap (λ (g : File). place g.last) e in omega (arith, l, z)
+          go_last (later e q) = let z = ap place e in omega (arith, z)
 
-          go : Place k.file f → (word_at (drop f.at s) 0 2 ≡ PL → ⊥) → f.last ≡ 4
+          go : Place k.file f → (word_at (drop f.at s) 0 2 ≡ PL → ⊥) → f.last ≡ play_rank
           go (later e q) n = e
           go (first e) n = absurd (behind k.behind)
             where
@@ -227,7 +231,7 @@ module _ {s : List ℕ} {p : ℕ} {m : Map} (k : MapIs s p m) where
 
     module _ (h : length s ≤ f.at) where
       pub reached_end : file_of s ≡ accepted f
-      reached_end = on_end s f (chain_on s f w.chain) h ∙ rw (ne_eqb f.last 0 (λ z. (let b = begun in omega (arith, b, z))))
+      reached_end = on_end s f (chain_on s f w.chain) h ∙ rw (placed_some f.last begun)
 
       pub end_is : f.at ≡ length s
       end_is = let i = chain_inside s f w.chain in omega (arith, i, h)

@@ -6,8 +6,9 @@ use Rattle.rules.specs.Refusals.{good, refused, ◌>>◌, refuse◌when◌, CUT,
 use Rattle.rules.specs.declared.refusal.Rule.{Rule}
 use Rattle.play_state.specs.declared.Play.{Play}
 use Rattle.records.specs.Fields.{cut}
+use Rattle.records.specs.Marks.{PL}
 use Rattle.records.specs.Records.{Content, header, break, object, play, FoundRecord, play_of}
-use Rattle.map_file.specs.Order.{PL, play_rank}
+use Rattle.map_file.specs.Order.{play_rank}
 use Rattle.map_file.specs.File.{File, refused_at, file_of}
 use Rattle.map_file.proofs.Reading.{Chain}
 use Rattle.map_reader.specs.Map.{MapIs}
@@ -20,11 +21,10 @@ play_record r = do
   refuse MARK when not (eqb (word_at r 0 2) PL)
   play_of r
 
+-- behind the map only plays are in order
 abbrev pub play_with : Content → Checked Play
-play_with (header s) = refused MARK
-play_with (break b) = refused MARK
-play_with (object o) = refused MARK
 play_with (play p) = good p
+play_with other = refused MARK
 
 abbrev pub play_by : FoundRecord → Checked Play
 play_by (refused n) = refused n

@@ -1,9 +1,10 @@
 -- What the calls on a whole file answer.
-use Rattle.std.specs.Prelude.{ℕ, ltb}
+use Rattle.std.specs.Prelude.{ℕ, Some, ltb}
 use Rattle.rules.specs.Refusals.{pick, OrRefusal, good, refused, refusal_at}
-use Rattle.map_file.specs.Order.{play_rank}
 use Rattle.map_file.specs.File.{Result, accepted, refused_at}
 use Rattle.map_file.specs.View.{view}
+use Rattle.map_file.specs.declared.file.Rank.{Rank}
+use Rattle.map_file.specs.declared.file.Rank.TheVariants as rank
 use Rattle.map_file.specs.declared.file.Reader.{Reader}
 use Rattle.map_reader.specs.Objects.{bonus_of}
 use Rattle.map_reader.specs.Map.{rank_behind}
@@ -12,14 +13,14 @@ use Rattle.simulator.specs.Attributes.{score_attributes_at}
 use Rattle.simulator.specs.declared.attributes.ScoreAttributes.{ScoreAttributes}
 
 -- the place in the order of the last record of a file of n bytes, all of which were read
-abbrev pub last_rank : ℕ → Map → ℕ
-last_rank n m = pick (ltb m.end n) play_rank (rank_behind m.breaks m.objects)
+abbrev pub last_rank : ℕ → Map → Rank
+last_rank n m = pick (ltb m.end n) rank.Play (rank_behind m.breaks.count m.objects)
 
 abbrev pub reader_in : ℕ → Map → Reader
 reader_in n m = record {
   at = n;
   settings = m.settings;
-  counts = record { last = last_rank n m; breaks = m.breaks; objects = m.objects; bonus = bonus_of m.passed };
+  counts = record { last = Some (last_rank n m); breaks = m.breaks.count; objects = m.objects; bonus = bonus_of m.passed };
 }
 
 -- the file's map by its counts

@@ -6,11 +6,12 @@ ghost use Rattle.map_file.specs.File.{file_of};
 ghost use Rattle.play_reader.specs.Plays.{play_in, MapFileOf};
 ghost use Rattle.play_reader.specs.View.{last_rank, reader_in, answer_of, simulated_of};
 
-use map_file::file::{Counts, PL, PLAY_RANK, Reader};
+use map_file::file::{Counts, Rank, Reader};
 use map_reader::attributes::attributes_of;
 use map_reader::map::{Map, rank_behind, read_passed};
 use numbers::words::word_at;
 use play_state::Play;
+use records::mark::Mark;
 use records::play_record::read_play;
 use records::record::Record;
 use rules::refusal::{Refusal, Rule};
@@ -28,7 +29,7 @@ pub fn play_at(s: &[u8], at: usize) -> Result<Play, Rule>
     if r.len() < 2 {
         return Err(Rule::Cut);
     }
-    if word_at(r, 0, 2) != PL {
+    if Mark::try_from(word_at(r, 0, 2)) != Ok(Mark::Play) {
         return Err(Rule::Mark);
     }
     match read_play(r)? {
@@ -49,13 +50,13 @@ pub fn read_file(s: &[u8], passed: u64) -> Result<Map, Refusal>
 }
 
 // The place in the order of a file's last record.
-fn last_rank(s: &[u8], map: Map) -> u8
+fn last_rank(s: &[u8], map: Map) -> Rank
     ensures { result ≡ last_rank (length s.now) map }
 {
     if map.end < s.len() {
-        return PLAY_RANK;
+        return Rank::Play;
     }
-    rank_behind(map.breaks, map.objects)
+    rank_behind(map.breaks.count, map.objects)
 }
 
 // The reader behind a file's last record.
@@ -67,8 +68,8 @@ fn reader_in(s: &[u8], map: Map) -> Reader
         at: s.len(),
         settings,
         counts: Counts {
-            last: last_rank(s, map),
-            breaks: map.breaks,
+            last: Some(last_rank(s, map)),
+            breaks: map.breaks.count,
             objects: map.objects,
             bonus: map.passed.score.legacy_bonus_score.0,
         },

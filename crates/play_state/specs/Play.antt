@@ -3,6 +3,8 @@ use Rattle.std.specs.Option.{ok_or}
 use Rattle.std.specs.Prelude.{ℕ, ◌^◌, ◌/◌, ◌%◌, Bool, not, List, eqb, Option, Some, None}
 use Rattle.numbers.specs.Words.{word_at}
 use Rattle.rules.specs.Refusals.{Checked, pick, PLAY_FIELD}
+use Rattle.play_state.specs.declared.GameMod.{GameMod}
+use Rattle.play_state.specs.declared.GameMod.TheVariants.{NoFail, Easy, Hidden, HardRock, Flashlight, SpunOut, Relax, Autopilot, ScoreV2}
 use Rattle.play_state.specs.declared.OsuHitResults.{OsuHitResults}
 use Rattle.play_state.specs.declared.OsuScoreOrigin.{OsuScoreOrigin}
 use Rattle.play_state.specs.declared.OsuScoreOrigin.TheVariants.{Stable, WithSliderAcc, WithoutSliderAcc}
@@ -15,7 +17,19 @@ origin_of b = pick (eqb b 0) (Some Stable) (pick (eqb b 1) (Some WithSliderAcc) 
 abbrev pub score_of : ℕ → ℕ → Option (Option ℕ)
 score_of present n = pick (eqb present 1) (Some (Some n)) (pick (eqb present 0) (pick (eqb n 0) (Some None) None) None)
 
--- "Flag bits, from the lowest: nf, ez, hd, hr, fl, so, rx, ap, sv2": the bit at a place
+-- "Flag bits, from the lowest: nf, ez, hd, hr, fl, so, rx, ap, sv2"
+abbrev pub place_of : GameMod → ℕ
+place_of NoFail = 0
+place_of Easy = 1
+place_of Hidden = 2
+place_of HardRock = 3
+place_of Flashlight = 4
+place_of SpunOut = 5
+place_of Relax = 6
+place_of Autopilot = 7
+place_of ScoreV2 = 8
+
+-- the bit at a place
 unfoldable pub flag_at : ℕ → ℕ → Bool
 flag_at place flags = eqb (flags / 2 ^ place % 2) 1
 
@@ -36,8 +50,5 @@ hitresults_of r = record {
 }
 
 -- "8: a play field is out of range"
-abbrev pub origin_checked : Option OsuScoreOrigin → Checked OsuScoreOrigin
-origin_checked o = ok_or o PLAY_FIELD
-
-abbrev pub score_checked : Option (Option ℕ) → Checked (Option ℕ)
-score_checked s = ok_or s PLAY_FIELD
+abbrev pub played : {A : Type 0} → Option A → Checked A
+played x = ok_or x PLAY_FIELD

@@ -2,7 +2,9 @@
 #![tactic(auto)]
 
 ghost use Rattle.std.specs.Prelude.{◌≡◌, ◌<◌};
-ghost use Rattle.play_state.specs.Play.{origin_of, score_of, flag_at, flags_bad};
+ghost use Rattle.play_state.specs.Play.{origin_of, played, score_of, place_of, flag_at, flags_bad};
+
+use rules::refusal::Rule;
 
 #[derive(Clone, Copy)]
 pub struct OsuHitResults {
@@ -22,7 +24,21 @@ pub enum OsuScoreOrigin {
     WithoutSliderAcc,
 }
 
-// The modifiers: a bit for each, from the lowest nf, ez, hd, hr, fl, so, rx, ap, sv2, and the clock rate.
+// A modifier, by the place of its bit.
+#[derive(Clone, Copy, Debug, PartialEq, Eq, Hash)]
+pub enum GameMod {
+    NoFail = 0,
+    Easy = 1,
+    Hidden = 2,
+    HardRock = 3,
+    Flashlight = 4,
+    SpunOut = 5,
+    Relax = 6,
+    Autopilot = 7,
+    ScoreV2 = 8,
+}
+
+// The modifiers, a bit for each, and the clock rate.
 #[derive(Clone, Copy)]
 pub struct GameMods {
     pub flags: u16,
@@ -54,58 +70,10 @@ fn flag(flags: u16, place: u16) -> bool
 impl GameMods {
     pub const FLAGS: u16 = 9;
 
-    pub fn nf(self) -> bool
-        ensures { result ≡ flag_at 0 self.flags }
+    pub fn has(self, m: GameMod) -> bool
+        ensures { result ≡ flag_at (place_of m) self.flags }
     {
-        flag(self.flags, 0)
-    }
-
-    pub fn ez(self) -> bool
-        ensures { result ≡ flag_at 1 self.flags }
-    {
-        flag(self.flags, 1)
-    }
-
-    pub fn hd(self) -> bool
-        ensures { result ≡ flag_at 2 self.flags }
-    {
-        flag(self.flags, 2)
-    }
-
-    pub fn hr(self) -> bool
-        ensures { result ≡ flag_at 3 self.flags }
-    {
-        flag(self.flags, 3)
-    }
-
-    pub fn fl(self) -> bool
-        ensures { result ≡ flag_at 4 self.flags }
-    {
-        flag(self.flags, 4)
-    }
-
-    pub fn so(self) -> bool
-        ensures { result ≡ flag_at 5 self.flags }
-    {
-        flag(self.flags, 5)
-    }
-
-    pub fn rx(self) -> bool
-        ensures { result ≡ flag_at 6 self.flags }
-    {
-        flag(self.flags, 6)
-    }
-
-    pub fn ap(self) -> bool
-        ensures { result ≡ flag_at 7 self.flags }
-    {
-        flag(self.flags, 7)
-    }
-
-    pub fn sv2(self) -> bool
-        ensures { result ≡ flag_at 8 self.flags }
-    {
-        flag(self.flags, 8)
+        flag(self.flags, m as u16)
     }
 }
 
@@ -116,19 +84,23 @@ pub fn has_unknown_flags(flags: u16) -> bool
     flags >> GameMods::FLAGS != 0
 }
 
-// The origin of a byte of a play's record.
-pub fn origin_of(b: u64) -> Option<OsuScoreOrigin>
-    ensures { result ≡ origin_of b }
-{
-    match b {
-        0 => Some(OsuScoreOrigin::Stable),
-        1 => Some(OsuScoreOrigin::WithSliderAcc),
-        2 => Some(OsuScoreOrigin::WithoutSliderAcc),
-        _ => None,
+// By a byte of a play's record.
+impl TryFrom<u64> for OsuScoreOrigin {
+    type Error = Rule;
+
+    ghost try_from_gives = { λ b r. r ≡ played (origin_of b) };
+
+    fn try_from(b: u64) -> Result<OsuScoreOrigin, Rule> {
+        match b {
+            0 => Ok(OsuScoreOrigin::Stable),
+            1 => Ok(OsuScoreOrigin::WithSliderAcc),
+            2 => Ok(OsuScoreOrigin::WithoutSliderAcc),
+            _ => Err(Rule::PlayField),
+        }
     }
 }
 
-// The score of a play's record by its mark, or no score, if the record may say so.
+// The score of a play's record by its mark, or no score, if the record may say so. No TryFrom, since std's Option is no type of this crate.
 pub fn score_of(present: u64, score: u32) -> Option<Option<u32>>
     ensures { result ≡ score_of present score }
 {

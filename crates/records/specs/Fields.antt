@@ -3,7 +3,7 @@ use Rattle.std.specs.Option.{ok_or}
 use Rattle.std.specs.Prelude.{ℕ, Bool, ◌&&◌, List, ltb, length, Float, Option, Some, None}
 use Rattle.std.specs.Float.{binary32, binary64}
 use Rattle.std.specs.Float.Ieee.{of_bits, neg, lt, le}
-use Rattle.rules.specs.Refusals.{Checked, pick, RANGE, PLAY_FIELD}
+use Rattle.rules.specs.Refusals.{Checked, pick, RANGE}
 
 -- the input ends before n bytes
 abbrev pub cut : List ℕ → ℕ → Bool
@@ -62,12 +62,5 @@ abbrev pub setting_of : ℕ → Option Float
 setting_of bits = if_in (is_setting (of_bits binary32 bits)) (of_bits binary32 bits)
 
 -- "4: a time, setting or duration is not finite or out of range"
-abbrev pub timed : Option Float → Checked Float
-timed x = ok_or x RANGE
-
-abbrev pub set : Option Float → Checked Float
-set x = ok_or x RANGE
-
--- "8: a play field is out of range"
-abbrev pub played : Option Float → Checked Float
-played x = ok_or x PLAY_FIELD
+abbrev pub ranged : Option Float → Checked Float
+ranged x = ok_or x RANGE

@@ -1,3 +1,4 @@
 pub mod Fields
+pub mod Marks
 pub mod Objects
 pub mod Records

@@ -4,9 +4,10 @@ use Rattle.std.specs.Prelude.{ℕ, ◌+◌, List, [], ◌∷◌, eqb, ltb, take,
 use Rattle.rules.specs.Limits.{max_nested, header_size, break_size, circle_size, slider_size, spinner_size, play_size}
 use Rattle.numbers.specs.Words.{word_at}
 use Rattle.rules.specs.Refusals.{Checked, good, refused, ◌>>=◌, ◌>>◌, refuse◌when◌, pick, CUT, MARK, NESTED, COUNT, PLAY_FIELD}
-use Rattle.records.specs.Fields.{cut, time_of, duration_of, rate_of, setting_of, timed, set, played}
+use Rattle.records.specs.Marks.{CI, SL, SP}
+use Rattle.records.specs.Fields.{cut, time_of, duration_of, rate_of, setting_of, ranged}
 use Rattle.records.specs.Objects.{Item, tick, repeat, circle, slider, spinner, Object, slider_view, object_view}
-use Rattle.play_state.specs.Play.{origin_of, score_of, flags_bad, hitresults_of, origin_checked, score_checked}
+use Rattle.play_state.specs.Play.{origin_of, score_of, flags_bad, hitresults_of, played}
 use Rattle.records.specs.declared.beatmap.Settings.{Settings}
 use Rattle.records.specs.declared.beatmap.BreakPeriod.{BreakPeriod}
 use Rattle.records.specs.declared.hit_object.Slider.{Slider}
@@ -29,24 +30,24 @@ FoundRecord = Checked (Content × ℕ)
 unfoldable pub header_of : List ℕ → FoundRecord
 header_of r = do
   refuse CUT when cut r header_size
-  hp ← set (setting_of (word_at r 2 4))
-  od ← set (setting_of (word_at r 6 4))
-  cs ← set (setting_of (word_at r 10 4))
+  hp ← ranged (setting_of (word_at r 2 4))
+  od ← ranged (setting_of (word_at r 6 4))
+  cs ← ranged (setting_of (word_at r 10 4))
   good (header (record { hp = hp; od = od; cs = cs }), header_size)
 
 -- "BR: start and end, f64"
 unfoldable pub break_of : List ℕ → FoundRecord
 break_of r = do
   refuse CUT when cut r break_size
-  start ← timed (time_of (word_at r 2 8))
-  end ← timed (time_of (word_at r 10 8))
+  start ← ranged (time_of (word_at r 2 8))
+  end ← ranged (time_of (word_at r 10 8))
   good (break (record { start_time = start; end_time = end }), break_size)
 
 -- "CI: circle, start f64"
 unfoldable pub circle_of : List ℕ → FoundRecord
 circle_of r = do
   refuse CUT when cut r circle_size
-  start ← timed (time_of (word_at r 2 8))
+  start ← ranged (time_of (word_at r 2 8))
   good (object (record { start = start; kind = circle }), circle_size)
 
 -- "0 tick, 1 repeat, 2 tail"
@@ -66,7 +67,7 @@ nested_of (b ∷ c ∷ bs) = do
 unfoldable pub slider_of : List ℕ → FoundRecord
 slider_of r = do
   refuse CUT when cut r slider_size
-  start ← timed (time_of (word_at r 2 8))
+  start ← ranged (time_of (word_at r 2 8))
   refuse COUNT when ltb max_nested (word_at r 10 2)
   refuse CUT when cut r (slider_size + word_at r 10 2)
   items ← nested_of (take (word_at r 10 2) (drop slider_size r))
@@ -76,16 +77,16 @@ slider_of r = do
 unfoldable pub spinner_of : List ℕ → FoundRecord
 spinner_of r = do
   refuse CUT when cut r spinner_size
-  start ← timed (time_of (word_at r 2 8))
-  duration ← timed (duration_of (word_at r 10 8))
+  start ← ranged (time_of (word_at r 2 8))
+  duration ← ranged (duration_of (word_at r 10 8))
   good (object (record { start = start; kind = spinner duration }), spinner_size)
 
 -- "PL, 42 bytes after the mark": passed, max combo and the hits have no range of their own
 unfoldable pub play_of : List ℕ → FoundRecord
 play_of r = do
   refuse CUT when cut r play_size
-  origin ← origin_checked (origin_of (word_at r 28 1))
-  score ← score_checked (score_of (word_at r 29 1) (word_at r 30 4))
+  origin ← played (origin_of (word_at r 28 1))
+  score ← played (score_of (word_at r 29 1) (word_at r 30 4))
   refuse PLAY_FIELD when flags_bad (word_at r 34 2)
   rate ← played (rate_of (word_at r 36 8))
   good (
@@ -114,16 +115,6 @@ content_view (play p) = PlayRecord p
 abbrev pub record_read : FoundRecord → Checked (Record × ℕ)
 record_read (refused n) = refused n
 record_read (good f) = good (content_view f.0, f.1)
-
--- ---- the objects' marks, in ASCII, as little-endian numbers
-abbrev pub CI : ℕ
-CI = 0x4943
-
-abbrev pub SL : ℕ
-SL = 0x4c53
-
-abbrev pub SP : ℕ
-SP = 0x5053
 
 -- the object behind a mark
 unfoldable pub object_of : List ℕ → ℕ → FoundRecord

@@ -1,11 +1,4 @@
 // The objects of a map: circles, sliders and spinners.
-// The marks in ASCII, as little-endian numbers.
-pub const CI: u64 = 0x4943;
-
-pub const SL: u64 = 0x4c53;
-
-pub const SP: u64 = 0x5053;
-
 // The nested items before a slider's tail, counted.
 #[derive(Clone, Copy)]
 pub struct Slider {

@@ -4,7 +4,8 @@ ghost use Rattle.rules.specs.Limits.{max_nested};
 ghost use Rattle.records.specs.Records.{record_read, nested_view, nested_of, circle_of, slider_of, spinner_of, object_of};
 
 use crate::fields;
-use crate::hit_object::{CI, HitObject, HitObjectKind, SL, SP, Slider, Spinner};
+use crate::hit_object::{HitObject, HitObjectKind, Slider, Spinner};
+use crate::mark::Mark;
 use crate::record::{Read, Record};
 use numbers::words::word_at;
 use rules::refusal::Rule;
@@ -98,14 +99,10 @@ pub fn read_spinner(r: &[u8]) -> Read
 pub fn read_object(r: &[u8], mark: u64) -> Read
     ensures { result ≡ record_read (object_of r.now mark) }
 {
-    if mark == CI {
-        return read_circle(r);
+    match Mark::try_from(mark)? {
+        Mark::Circle => read_circle(r),
+        Mark::Slider => read_slider(r),
+        Mark::Spinner => read_spinner(r),
+        Mark::Header | Mark::Break | Mark::Play => Err(Rule::Mark),
     }
-    if mark == SL {
-        return read_slider(r);
-    }
-    if mark == SP {
-        return read_spinner(r);
-    }
-    Err(Rule::Mark)
 }

@@ -6,7 +6,7 @@ ghost use Rattle.records.specs.Records.{record_read, play_of};
 use crate::fields;
 use crate::record::{Read, Record};
 use numbers::words::word_at;
-use play_state::{GameMods, OsuHitResults, Play, has_unknown_flags, origin_of, score_of};
+use play_state::{GameMods, OsuHitResults, OsuScoreOrigin, Play, has_unknown_flags, score_of};
 use rules::refusal::Rule;
 
 #[tactic(auto, unfolding(play_state::specs::Play::hitresults_of))]
@@ -31,7 +31,7 @@ pub fn read_play(r: &[u8]) -> Read
     if r.len() < Play::SIZE {
         return Err(Rule::Cut);
     }
-    let origin = origin_of(word_at(r, 28, 1)).ok_or(Rule::PlayField)?;
+    let origin = OsuScoreOrigin::try_from(word_at(r, 28, 1))?;
     let legacy_total_score = score_of(word_at(r, 29, 1), word_at(r, 30, 4) as u32).ok_or(
         Rule::PlayField,
     )?;

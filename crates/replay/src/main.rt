@@ -4,7 +4,7 @@
 
 ghost use Rattle.std.specs.Prelude.{◌≡◌, ◌↔◌, IfOk, IsTrue};
 
-use frames::{read_front, starts_with};
+use frames::read_front;
 use listing::{list_file, list_input};
 use std::io::{Read, Write};
 use std::{fmt, io};
@@ -20,13 +20,6 @@ enum Kind {
     Listing,
 }
 
-#[derive(Clone, Copy, PartialEq, Eq)]
-enum Outcome {
-    Agree,
-    Differ,
-    Cut,
-}
-
 // How many rows of a sort there are, and how many of them agree.
 #[derive(Clone, Copy, Default)]
 struct Tally {
@@ -40,12 +33,19 @@ struct Tallies {
     listings: Tally,
 }
 
-// Where each row is read and listed, over the row before.
+// Where each row is read and listed, over the row before: fixed, since the project takes no heap.
 #[derive(Drop)]
 struct Spaces {
     due: [u8; SPACE],
     file: [u8; SPACE],
     text: [u8; SPACE],
+}
+
+// A row that was read and listed: the text that is due, and the text of its file.
+#[derive(Clone, Copy)]
+struct Row<'a> {
+    due: &'a [u8],
+    text: &'a [u8],
 }
 
 impl From<u8> for Kind {
@@ -61,41 +61,17 @@ impl From<u8> for Kind {
 // The kind of the next row, if there is one.
 fn read_kind<R: Read>(reader: &mut R) -> Option<Kind> {
     let mut kind = [0u8; 1];
-    read_front(reader, &mut kind, 1).then_some(Kind::from(kind[0]))
+    read_front(reader, &mut kind, 1)?;
+    Some(Kind::from(kind[0]))
 }
 
 // Reads a length, and then as many bytes to the front of the space. There are none where the row is cut.
 fn read_bytes<'a, R: Read>(reader: &mut R, space: &'a mut [u8]) -> Option<&'a [u8]> {
     let mut length = [0u8; 4];
-    if !read_front(reader, &mut length, 4) {
-        return None;
-    }
+    read_front(reader, &mut length, 4)?;
     let length = u32::from_le_bytes(length) as usize;
-    if read_front(reader, space, length) {
-        Some(&space[..length])
-    } else {
-        None
-    }
-}
-
-fn is_due(text: &[u8], due: &[u8]) -> bool
-    ensures { IsTrue result ↔ (text.now ≡ due.now) }
-{
-    text.len() == due.len() && starts_with(text, due)
-}
-
-// Holds a text against the one that is due, and prints both where they differ.
-fn compare<W: Write>(writer: &mut W, text: &[u8], due: &[u8]) -> io::Result<Outcome>
-    ensures { IfOk result (λ outcome. (outcome ≡ Outcome.Agree) ↔ (text.now ≡ due.now)) }
-{
-    if is_due(text, due) {
-        return Ok(Outcome::Agree);
-    }
-    writer.write_all(b"due:\n")?;
-    writer.write_all(due)?;
-    writer.write_all(b"\nfound:\n")?;
-    writer.write_all(text)?;
-    Ok(Outcome::Differ)
+    read_front(reader, space, length)?;
+    Some(&space[..length])
 }
 
 fn list(kind: Kind, file: &[u8], space: &mut [u8]) -> Option<usize> {
@@ -105,26 +81,28 @@ fn list(kind: Kind, file: &[u8], space: &mut [u8]) -> Option<usize> {
     }
 }
 
-// Reads one row behind its kind and replays it.
-fn replay_row<R: Read, W: Write>(
-    reader: &mut R,
-    writer: &mut W,
-    kind: Kind,
-    spaces: &mut Spaces,
-) -> io::Result<Outcome> {
-    let Some(due) = read_bytes(reader, &mut spaces.due) else {
-        return Ok(Outcome::Cut);
-    };
-    let Some(file) = read_bytes(reader, &mut spaces.file) else {
-        return Ok(Outcome::Cut);
-    };
-    let Some(count) = list(kind, file, &mut spaces.text) else {
-        return Ok(Outcome::Cut);
-    };
-    match spaces.text.get(..count) {
-        Some(text) => compare(writer, text, due),
-        None => Ok(Outcome::Cut),
+// Reads one row behind its kind and lists its file. There is none where the row is cut.
+fn read_row<'a, R: Read>(reader: &mut R, kind: Kind, spaces: &'a mut Spaces) -> Option<Row<'a>> {
+    let Spaces { due, file, text } = spaces;
+    let due = read_bytes(reader, due)?;
+    let file = read_bytes(reader, file)?;
+    let count = list(kind, file, text)?;
+    let text = text.get(..count)?;
+    Some(Row { due, text })
+}
+
+// Says whether a text is the one that is due, and prints both where they differ.
+fn compare<W: Write>(writer: &mut W, text: &[u8], due: &[u8]) -> io::Result<bool>
+    ensures { IfOk result (λ agrees. IsTrue agrees ↔ (text.now ≡ due.now)) }
+{
+    if text == due {
+        return Ok(true);
     }
+    writer.write_all(b"due:\n")?;
+    writer.write_all(due)?;
+    writer.write_all(b"\nfound:\n")?;
+    writer.write_all(text)?;
+    Ok(false)
 }
 
 impl Spaces {
@@ -137,8 +115,7 @@ impl Spaces {
 
 impl Tally {
     // No input has so many rows that a count would wrap.
-    fn with(self, outcome: Outcome) -> Tally {
-        let agrees = outcome == Outcome::Agree;
+    fn with(self, agrees: bool) -> Tally {
         Tally {
             agree: self.agree.wrapping_add(u64::from(agrees)),
             rows: self.rows.wrapping_add(1),
@@ -154,22 +131,21 @@ impl fmt::Display for Tally {
 }
 
 impl Tallies {
-    fn with(self, kind: Kind, outcome: Outcome) -> Tallies {
-        let Tallies { refusals, listings } = self;
+    fn with(self, kind: Kind, agrees: bool) -> Tallies {
         match kind {
             Kind::RefusedInput | Kind::RefusedFile => Tallies {
-                refusals: refusals.with(outcome),
-                listings,
+                refusals: self.refusals.with(agrees),
+                ..self
             },
             Kind::Listing => Tallies {
-                refusals,
-                listings: listings.with(outcome),
+                listings: self.listings.with(agrees),
+                ..self
             },
         }
     }
 }
 
-// Replays rows until the input ends, or a row is cut.
+// Replays rows until the input ends, or a row is cut. A proved loop has to end, and nothing says that an input does.
 fn replay_all<R: Read, W: Write>(reader: &mut R, writer: &mut W) -> io::Result<Tallies> {
     let mut spaces = Spaces::EMPTY;
     let mut tallies = Tallies::default();
@@ -177,11 +153,11 @@ fn replay_all<R: Read, W: Write>(reader: &mut R, writer: &mut W) -> io::Result<T
         let Some(kind) = read_kind(reader) else {
             break;
         };
-        let outcome = replay_row(reader, writer, kind, &mut spaces)?;
-        tallies = tallies.with(kind, outcome);
-        if outcome == Outcome::Cut {
-            break;
-        }
+        let Some(Row { due, text }) = read_row(reader, kind, &mut spaces) else {
+            return Ok(tallies.with(kind, false));
+        };
+        let agrees = compare(writer, text, due)?;
+        tallies = tallies.with(kind, agrees);
     }
     Ok(tallies)
 }

@@ -1,26 +1,30 @@
 -- The breaks of a file stand behind its header, 18 bytes each: what was read of the file so far keeps this. Assumes nothing.
-use Rattle.std.specs.Prelude.{Some, None}
+use Rattle.std.specs.Prelude.{Option, Some, None}
 use Rattle.std.proofs.Common.{◌≡◌, ℕ, zero, suc, ◌+◌, ◌*◌, ◌<◌, ◌≤◌, Bool, true, false, ◌&&◌, eqb, ltb, leb, List, [], ◌∷◌, ◌++◌, length, drop, sym, refl, ap, ◌∙◌, arith, ltb-true, eqb-true, leb-true}
 use borrow.Author.Tests.{not-false}
 use lib.Ieee.{binary64, of_bits, neg, le}
 use Rattle.numbers.specs.Words.{word_at}
 use Rattle.numbers.proofs.words.Laws.{word_at-drop}
 use Rattle.rules.specs.Refusals.{good, pick, CUT, MARK, COUNT, BONUS, PLAY_FIELD}
-use Rattle.records.specs.Fields.{timed, time_of, time_limit}
-use Rattle.records.specs.Records.{Content, header, break, object, play, header_of, break_of, play_of, object_of, circle_of, slider_of, spinner_of, CI, SL, SP}
-use Rattle.map_file.specs.Order.{MH, BR, PL, rank_of, in_order, body_of, record_of}
+use Rattle.records.specs.Fields.{ranged, time_of, time_limit}
+use Rattle.records.specs.Marks.{MH, BR, CI, SL, SP, PL}
+use Rattle.records.specs.Records.{Content, header, break, object, play, header_of, break_of, play_of, object_of, circle_of, slider_of, spinner_of}
+use Rattle.map_file.specs.Order.{no_rank, place, rank_of, in_order, body_of, record_of}
 use Rattle.map_file.specs.File.{File, counts_of, with_record, nothing_read}
 use Rattle.records.specs.declared.beatmap.BreakPeriod.{BreakPeriod}
 use Rattle.map_file.specs.declared.file.Counts.{Counts}
+use Rattle.map_file.specs.declared.file.Rank.{Rank}
 use Rattle.rules.proofs.All.{All, none, that, all_bind, all_any, all_when, all_pick, all_out}
+use Rattle.rules.proofs.Laws.{never}
+use Rattle.map_file.proofs.Ranks.{none_is}
 use Rattle.map_file.proofs.Reading.{found_at, length_snoc}
 use Rattle.ruleset.specs.Drain.{break_at, breaks_from, breaks_in}
 
 -- ---- one record
-pub time_is : (b : ℕ) → All (λ x. x ≡ of_bits binary64 b) (timed (time_of b))
+pub time_is : (b : ℕ) → All (λ x. x ≡ of_bits binary64 b) (ranged (time_of b))
 time_is b = go (le (neg time_limit) (of_bits binary64 b) && le (of_bits binary64 b) time_limit)
   where
-    go : (t : Bool) → All (λ x. x ≡ of_bits binary64 b) (timed (pick t (Some (of_bits binary64 b)) None))
+    go : (t : Bool) → All (λ x. x ≡ of_bits binary64 b) (ranged (pick t (Some (of_bits binary64 b)) None))
     go true = that refl
     go false = none
 
@@ -47,9 +51,9 @@ body_marked r m =
     all_pick (eqb m PL) (λ _. all_when CUT _ _ (λ _. all_any _ _ (λ o. all_any _ _ (λ s. all_when PLAY_FIELD _ _ (λ _. all_any _ _ (λ x. that tt)))))) (λ _. object_marked r m)))
 
 -- and where they stand in the order
-abbrev pub Placed : List ℕ → ℕ → Content → ℕ → Type 0
-Placed r last (header s) n = (last ≡ 0) × (n ≡ 14)
-Placed r last (break b) n = (0 < last) × (last ≤ 2) × (n ≡ 18) × (b ≡ break_at r 0)
+abbrev pub Placed : List ℕ → Option Rank → Content → ℕ → Type 0
+Placed r last (header s) n = (last ≡ no_rank) × (n ≡ 14)
+Placed r last (break b) n = (0 < place last) × (place last ≤ 2) × (n ≡ 18) × (b ≡ break_at r 0)
 Placed r last (object o) n = Unit
 Placed r last (play p) n = Unit
 
@@ -57,9 +61,9 @@ both : (a b : Bool) → (a && b) ≡ true → (a ≡ true) × (b ≡ true)
 both true b e = (refl, e)
 both false b e = absurd (let z : ◌≡◌ {A = ℕ} 0 1 = cc in omega arith)
 
-placed : (r : List ℕ) (last m : ℕ) (x : Content) (n : ℕ) → in_order last (rank_of m) ≡ true → Marked r m x n → Placed r last x n
-placed r last m (header s) n o h = (eqb-true last 0 (rw h.0 at o), h.1)
-placed r last m (break b) n o h = let p = both (ltb 0 last) (leb last 2) (rw h.0 at o) in (ltb-true 0 last p.0, leb-true last 2 p.1, h.1, h.2)
+placed : (r : List ℕ) (last : Option Rank) (m : ℕ) (x : Content) (n : ℕ) → in_order last (rank_of m) ≡ true → Marked r m x n → Placed r last x n
+placed r last m (header s) n o h = (none_is last (rw h.0 at o), h.1)
+placed r last m (break b) n o h = let p = both (ltb 0 (place last)) (leb (place last) 2) (rw h.0 at o) in (ltb-true 0 (place last) p.0, leb-true (place last) 2 p.1, h.1, h.2)
 placed r last m (object o) n e h = tt
 placed r last m (play p) n e h = tt
 
@@ -72,13 +76,13 @@ record_placed r c =
 
 -- ---- what was read so far
 pub record Standing (s : List ℕ) (f : File) : Type 0 where
-  pub none_yet : f.last ≡ 0 → (f.at ≡ 0) × (f.map.breaks ≡ [])
-  pub place : 0 < f.last → f.last ≤ 2 → f.at ≡ 14 + 18 * length f.map.breaks
+  pub none_yet : f.last ≡ no_rank → (f.at ≡ 0) × (f.map.breaks ≡ [])
+  pub stands : 0 < place f.last → place f.last ≤ 2 → f.at ≡ 14 + 18 * length f.map.breaks
   pub same : breaks_in s (length f.map.breaks) ≡ f.map.breaks
 
 pub standing_start : (s : List ℕ) → Standing s nothing_read
 unfolding breaks_from
-standing_start s = record { none_yet = λ _. (refl, refl); place = λ h _. absurd (omega (arith, h)); same = refl }
+standing_start s = record { none_yet = λ _. (refl, refl); stands = λ h _. absurd (omega (arith, h)); same = refl }
 
 breaks_more : (s : List ℕ) (at n : ℕ) → breaks_from s at (n + 1) ≡ breaks_from s at n ++ (break_at s (at + 18 * n) ∷ [])
 unfolding breaks_from
@@ -96,18 +100,18 @@ unfolding with_record
 standing_with s f (header t) n h w =
     let e = w.none_yet h.0 in
     let z : length f.map.breaks ≡ 0 = ap length e.1 in
-    record { none_yet = λ k. absurd (omega (arith, k)); place = λ _ _. omega (arith, e.0, h.1, z); same = w.same }
+    record { none_yet = λ k. never (cc); stands = λ _ _. omega (arith, e.0, h.1, z); same = w.same }
 standing_with s f (break b) n h w =
-    let here = w.place h.0 h.1 in
+    let here = w.stands h.0 h.1 in
     let more = length_snoc f.map.breaks b in
     let is : break_at s (14 + 18 * length f.map.breaks) ≡ b = ap (break_at s) (sym here) ∙ sym (break_there s f.at) ∙ sym h.3 in
     record {
-      none_yet = λ k. absurd (omega (arith, k));
-      place = λ _ _. omega (arith, here, h.2, more);
+      none_yet = λ k. never (cc);
+      stands = λ _ _. omega (arith, here, h.2, more);
       same = rw more (breaks_more s 14 (length f.map.breaks) ∙ rw is (ap (λ (l : List BreakPeriod). l ++ (b ∷ [])) w.same));
     }
-standing_with s f (object o) n h w = record { none_yet = λ k. absurd (omega (arith, k)); place = λ _ k. absurd (omega (arith, k)); same = w.same }
-standing_with s f (play p) n h w = record { none_yet = λ k. absurd (omega (arith, k)); place = λ _ k. absurd (omega (arith, k)); same = w.same }
+standing_with s f (object o) n h w = record { none_yet = λ k. never (cc); stands = λ _ k. absurd (omega (arith, k)); same = w.same }
+standing_with s f (play p) n h w = record { none_yet = λ k. never (cc); stands = λ _ k. absurd (omega (arith, k)); same = w.same }
 
 pub standing_step : (s : List ℕ) (f : File) (r : Content × ℕ) → found_at s f ≡ good r → Standing s f → Standing s (with_record f r)
 unfolding counts_of

@@ -2,11 +2,10 @@
 ghost use Rattle.std.specs.Prelude.{◌≡◌};
 ghost use Rattle.ruleset.specs.Stars.{ratio_of, stars_of};
 
-use numbers::bits::f32_to_f64;
 use numbers::minmax::clamp;
-use numbers::rounding::{float, round_ties_even_i32};
+use numbers::rounding::round_ties_even_i32;
 use records::beatmap::Settings;
-use std::num::nearest_i64_to_f64;
+use std::num::{nearest_i64_to_f64, nearest_u64_to_f64};
 
 fn object_to_drain_ratio(object_count: u64, drain_len: i64) -> f64
     ensures { result ≡ ratio_of object_count drain_len }
@@ -15,7 +14,7 @@ fn object_to_drain_ratio(object_count: u64, drain_len: i64) -> f64
         16.0
     } else {
         clamp(
-            float(object_count) / nearest_i64_to_f64(drain_len) * 8.0,
+            nearest_u64_to_f64(object_count) / nearest_i64_to_f64(drain_len) * 8.0,
             0.0,
             16.0,
         )
@@ -29,9 +28,9 @@ pub fn calculate_difficulty_peppy_stars(
 ) -> i32
     ensures { result ≡ stars_of settings object_count drain_len }
 {
-    let drain_rate = f32_to_f64(settings.hp);
-    let overall_difficulty = f32_to_f64(settings.od);
-    let circle_size = f32_to_f64(settings.cs);
+    let drain_rate = f64::from(settings.hp);
+    let overall_difficulty = f64::from(settings.od);
+    let circle_size = f64::from(settings.cs);
     let ratio = object_to_drain_ratio(object_count, drain_len);
     round_ties_even_i32((drain_rate + overall_difficulty + circle_size + ratio) / 38.0 * 5.0)
 }

@@ -8,10 +8,10 @@ ghost use Rattle.ruleset.specs.Drain.{length_of, breaks_length, breaks_of, break
 ghost use Rattle.ruleset.specs.Stars.{SettingsIn, multiplier_of};
 
 use crate::ruleset_ext::calculate_difficulty_peppy_stars;
-use numbers::bits::f64_from_bits;
 use numbers::rounding::round_ties_even_i32;
 use numbers::words::word_at;
-use records::beatmap::{BreakPeriod, Settings};
+use records::beatmap::{BreakCount, BreakPeriod, Settings};
+use std::num::f64_from_bits_with_nan;
 
 // The milliseconds from one time to another, each rounded to a whole number.
 pub fn length_between(start: f64, end: f64) -> i64
@@ -55,17 +55,19 @@ fn break_at(s: &[u8], place: u64) -> BreakPeriod
 {
     let at = Settings::SIZE + place as usize * BreakPeriod::SIZE;
     BreakPeriod {
-        start_time: f64_from_bits(word_at(s, at + 2, 8)),
-        end_time: f64_from_bits(word_at(s, at + 10, 8)),
+        start_time: f64_from_bits_with_nan(word_at(s, at + 2, 8)),
+        end_time: f64_from_bits_with_nan(word_at(s, at + 10, 8)),
     }
 }
 
-// The length of the first `count` breaks of a map file.
-pub fn break_len_in(s: &[u8], count: u64, last_start: f64) -> i64
-    requires { count ≤ max_breaks }
-    ensures { (result ≡ breaks_length last_start (breaks_in s.now count)) × (mag result ≤ 2 ^ 41) }
+// The length of the breaks of a map file before the last start.
+pub fn break_len_in(s: &[u8], breaks: BreakCount, last_start: f64) -> i64
+    ensures { (result ≡ breaks_length last_start (breaks_in s.now breaks.count)) × (mag result ≤ 2 ^ 41) }
 {
-    len_before((0..count).map(|place| break_at(s, place)), last_start)
+    len_before(
+        (0..breaks.count).map(|place| break_at(s, place)),
+        last_start,
+    )
 }
 
 // The seconds from the first to the last start, without the breaks, cut toward zero.

@@ -5,13 +5,14 @@ use mathlib.Core.Bool.{Bool, true, false}
 use mathlib.Core.List.{List, [], ◌∷◌, ◌++◌}
 use Prim.Native.Nat.{ℕ, zero, suc, ◌+◌, ◌≤◌, ◌<◌, min}
 use native.Mathlib.Omega.{arith}
-use borrow.Author.Tests.{ne_eqb, eqb-true}
+use borrow.Author.Tests.{eqb-true}
 use lib.Dec.{ltb}
 use lib.ListN.{length, drop}
 use Rattle.rules.specs.Refusals.{Checked, good, refused, pick, INPUT}
 use Rattle.records.specs.Records.{Content, header, break, object, play, FoundRecord}
+use Rattle.map_file.specs.Order.{play_rank, place}
 use Rattle.map_file.specs.File.{File, Map as MapData, Result, refused_at, with_record, follow, ended, file_from, file_of}
-use Rattle.map_file.proofs.Room.{place_of}
+use Rattle.map_file.proofs.Room.{content_rank}
 use Rattle.map_file.proofs.Reading.{found_at, found_ordered, chain_on, chain_plays}
 use Rattle.play_state.specs.declared.Play.{Play}
 use Rattle.map_reader.specs.Map.{MapIs}
@@ -31,7 +32,7 @@ use Rattle.rules.proofs.Laws.{never}
 
 -- ---- a refused play refuses the file, whatever follows: behind it only plays can be read, and they change neither the map nor what was refused
 record Ended (f : File) (n : Rule) (at : ℕ) : Type 0 where
-  late : f.last ≡ 4
+  late : f.last ≡ play_rank
   refuses : play_scores f.map f.plays ≡ refusal n at
 
 abbrev Refuses : Rule → ℕ → Result → Type 0
@@ -41,13 +42,13 @@ stop_refuses : (f : File) (n : Rule) (at : ℕ) (k : Rule) (o : ℕ) → Ended f
 stop_refuses f n at k o e = rw e.refuses
 
 end_refuses : (f : File) (n : Rule) (at : ℕ) → Ended f n at → Refuses n at (ended f)
-end_refuses f n at e = simp (ne_eqb f.last 0 (λ z. (let l = e.late in omega (arith, l, z)))) (rw e.refuses)
+end_refuses f n at e = rw e.late (rw e.refuses)
 
-ended_more : (f : File) (n : Rule) (at : ℕ) (x : Content) (size : ℕ) → f.last ≤ place_of x → Ended f n at → Ended (with_record f (x, size)) n at
+ended_more : (f : File) (n : Rule) (at : ℕ) (x : Content) (size : ℕ) → place f.last ≤ place (content_rank x) → Ended f n at → Ended (with_record f (x, size)) n at
 unfolding with_record
-ended_more f n at (header s) size h e = never (let l = e.late in omega (arith, l, h))
-ended_more f n at (break b) size h e = never (let l = e.late in omega (arith, l, h))
-ended_more f n at (object o) size h e = never (let l = e.late in omega (arith, l, h))
+ended_more f n at (header s) size h e = never (let l = ap place e.late in omega (arith, l, h))
+ended_more f n at (break b) size h e = never (let l = ap place e.late in omega (arith, l, h))
+ended_more f n at (object o) size h e = never (let l = ap place e.late in omega (arith, l, h))
 ended_more f n at (play p) size h e = record { late = refl; refuses = refused_more f.map f.plays ((f.at, p) ∷ []) n at e.refuses }
 
 from_refuses : (fuel : ℕ) (s : List ℕ) (f : File) (n : Rule) (at : ℕ) → Ended f n at → Refuses n at (file_from fuel s f)

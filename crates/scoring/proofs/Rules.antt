@@ -1,6 +1,7 @@
 -- Every refusal has the number of a rule: each check of a record names one, and the reading of a file always comes to its end.
 use Rattle.rules.specs.declared.refusal.Rule.{Rule}
-use Rattle.std.specs.Prelude.{Option, Some, None, Float}
+use Rattle.std.specs.Option.{ok_or}
+use Rattle.std.specs.Prelude.{Option, Some, None, is_none}
 use mathlib.Core.Path.{◌≡◌, refl, subst}
 use mathlib.Core.Bool.{Bool, true, false}
 use mathlib.Core.List.{List, [], ◌∷◌}
@@ -11,13 +12,13 @@ use lib.Dec.{eqb, ltb}
 use lib.ListN.{length, take, drop}
 use Rattle.numbers.specs.Words.{word_at}
 use Rattle.rules.specs.Refusals.{Checked, good, refused, ◌>>=◌, ◌>>◌, refuse◌when◌, pick, number_of, CUT, MARK, RANGE, NESTED, COUNT, BONUS, PLAY_FIELD, PLAY_EXCEEDS}
-use Rattle.records.specs.Fields.{time_of, duration_of, rate_of, setting_of, timed, set, played}
-use Rattle.play_state.specs.Play.{origin_of, score_of, origin_checked, score_checked}
-use Rattle.records.specs.Records.{Content, FoundRecord, CI, SL, SP, header_of, break_of, circle_of, item_of, nested_of, slider_of, spinner_of, play_of, object_of}
-use Rattle.map_file.specs.Order.{MH, BR, PL, body_of, record_of}
+use Rattle.records.specs.Fields.{time_of, duration_of, rate_of, setting_of}
+use Rattle.play_state.specs.Play.{origin_of, score_of}
+use Rattle.records.specs.Marks.{MH, BR, CI, SL, SP, PL}
+use Rattle.records.specs.Records.{Content, FoundRecord, header_of, break_of, circle_of, item_of, nested_of, slider_of, spinner_of, play_of, object_of}
+use Rattle.map_file.specs.Order.{body_of, record_of}
 use Rattle.map_file.specs.File.{File, Result, accepted, refused_at, counts_of, with_record, follow, ended, file_from, nothing_read, file_of}
 use Rattle.map_file.specs.declared.file.Counts.{Counts}
-use Rattle.play_state.specs.declared.OsuScoreOrigin.{OsuScoreOrigin}
 use Rattle.play_state.specs.declared.Play.{Play}
 use Rattle.map_file.specs.File.{Map}
 use Rattle.map_file.proofs.Reading.{found_at, found_sized, with_at}
@@ -74,25 +75,9 @@ nine : IsRule PLAY_EXCEEDS
 nine = (omega arith, omega arith)
 
 -- ---- the fields
-ruled_timed : (d : Option Float) → Ruled (timed d)
-ruled_timed (Some x) = fine
-ruled_timed None = rule four
-
-ruled_set : (d : Option Float) → Ruled (set d)
-ruled_set (Some x) = fine
-ruled_set None = rule four
-
-ruled_played : (d : Option Float) → Ruled (played d)
-ruled_played (Some x) = fine
-ruled_played None = rule eight
-
-ruled_origin : (o : Option OsuScoreOrigin) → Ruled (origin_checked o)
-ruled_origin (Some x) = fine
-ruled_origin None = rule eight
-
-ruled_score : (s : Option (Option ℕ)) → Ruled (score_checked s)
-ruled_score (Some x) = fine
-ruled_score None = rule eight
+ruled_or : {A : Type 0} (n : Rule) → IsRule n → (x : Option A) → Ruled (ok_or x n)
+ruled_or n r (Some x) = fine
+ruled_or n r None = rule r
 
 ruled_nested : (l : List ℕ) → Ruled (nested_of l)
 unfolding nested_of
@@ -105,31 +90,31 @@ ruled_nested (b ∷ c ∷ l) =
 ruled_header : (r : List ℕ) → Ruled (header_of r)
 unfolding header_of
 ruled_header r =
-    ruled_when CUT _ _ two (ruled_bind _ _ (ruled_set (setting_of (word_at r 2 4))) (λ hp. ruled_bind _ _ (ruled_set (setting_of (word_at r 6 4))) (λ od. ruled_bind _ _ (ruled_set (setting_of (word_at r 10 4))) (λ cs. fine))))
+    ruled_when CUT _ _ two (ruled_bind _ _ (ruled_or _ four (setting_of (word_at r 2 4))) (λ hp. ruled_bind _ _ (ruled_or _ four (setting_of (word_at r 6 4))) (λ od. ruled_bind _ _ (ruled_or _ four (setting_of (word_at r 10 4))) (λ cs. fine))))
 
 ruled_break : (r : List ℕ) → Ruled (break_of r)
 unfolding break_of
-ruled_break r = ruled_when CUT _ _ two (ruled_bind _ _ (ruled_timed (time_of (word_at r 2 8))) (λ a. ruled_bind _ _ (ruled_timed (time_of (word_at r 10 8))) (λ b. fine)))
+ruled_break r = ruled_when CUT _ _ two (ruled_bind _ _ (ruled_or _ four (time_of (word_at r 2 8))) (λ a. ruled_bind _ _ (ruled_or _ four (time_of (word_at r 10 8))) (λ b. fine)))
 
 ruled_circle : (r : List ℕ) → Ruled (circle_of r)
 unfolding circle_of
-ruled_circle r = ruled_when CUT _ _ two (ruled_bind _ _ (ruled_timed (time_of (word_at r 2 8))) (λ a. fine))
+ruled_circle r = ruled_when CUT _ _ two (ruled_bind _ _ (ruled_or _ four (time_of (word_at r 2 8))) (λ a. fine))
 
 ruled_slider : (r : List ℕ) → Ruled (slider_of r)
 unfolding slider_of
 ruled_slider r =
-    ruled_when CUT _ _ two (ruled_bind _ _ (ruled_timed (time_of (word_at r 2 8))) (λ a.
+    ruled_when CUT _ _ two (ruled_bind _ _ (ruled_or _ four (time_of (word_at r 2 8))) (λ a.
     ruled_when COUNT _ _ six (ruled_when CUT _ _ two (ruled_bind _ _ (ruled_nested (take (word_at r 10 2) (drop 12 r))) (λ is. fine)))))
 
 ruled_spinner : (r : List ℕ) → Ruled (spinner_of r)
 unfolding spinner_of
-ruled_spinner r = ruled_when CUT _ _ two (ruled_bind _ _ (ruled_timed (time_of (word_at r 2 8))) (λ a. ruled_bind _ _ (ruled_timed (duration_of (word_at r 10 8))) (λ b. fine)))
+ruled_spinner r = ruled_when CUT _ _ two (ruled_bind _ _ (ruled_or _ four (time_of (word_at r 2 8))) (λ a. ruled_bind _ _ (ruled_or _ four (duration_of (word_at r 10 8))) (λ b. fine)))
 
 ruled_play : (r : List ℕ) → Ruled (play_of r)
 unfolding play_of
 ruled_play r =
-    ruled_when CUT _ _ two (ruled_bind _ _ (ruled_origin (origin_of (word_at r 28 1))) (λ o. ruled_bind _ _ (ruled_score (score_of (word_at r 29 1) (word_at r 30 4))) (λ s.
-    ruled_when PLAY_FIELD _ _ eight (ruled_bind _ _ (ruled_played (rate_of (word_at r 36 8))) (λ x. fine)))))
+    ruled_when CUT _ _ two (ruled_bind _ _ (ruled_or _ eight (origin_of (word_at r 28 1))) (λ o. ruled_bind _ _ (ruled_or _ eight (score_of (word_at r 29 1) (word_at r 30 4))) (λ s.
+    ruled_when PLAY_FIELD _ _ eight (ruled_bind _ _ (ruled_or _ eight (rate_of (word_at r 36 8))) (λ x. fine)))))
 
 pub ruled_object : (r : List ℕ) (m : ℕ) → Ruled (object_of r m)
 unfolding object_of
@@ -150,7 +135,7 @@ pub data RuledFile : Result → Type 0 where
   rule : {n : Rule} {at : ℕ} {f : File} → IsRule n → RuledFile (refused_at n at f)
 
 ruled_ended : (f : File) → RuledFile (ended f)
-ruled_ended f = go (eqb f.last 0)
+ruled_ended f = go (is_none f.last)
   where
     go : (b : Bool) → RuledFile (pick b (refused_at MARK 0 f) (accepted f))
     go true = rule three

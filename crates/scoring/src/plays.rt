@@ -1,21 +1,19 @@
 // The plays of a map file, each checked on the map that stands before it.
 ghost use Rattle.std.specs.Prelude.{◌≡◌};
 ghost use Rattle.map_file.specs.File.{file_of};
-ghost use Rattle.marks.specs.Marks.{IsMap};
 ghost use Rattle.scoring.specs.Scores.{scores_of};
 ghost use Rattle.scoring.specs.View.{wanted_after, AfterPlay, passes_as_many, AnyPlaying, Attributed, ScoredOn, checked_of, CheckedFrom, PlaysOf};
 
 use map_reader::attributes::attributes_of;
 use map_reader::map::{Map, read_passed};
-use marks::{attributes_from, mark_before, marks_of, score_anew};
-use numbers::naturals::least;
+use marks::{MapFile, mark_before};
 use play_reader::play_at;
 use play_score::{PlayScore, exceeds_map, score_on};
 use play_state::Play;
 use rules::refusal::{Refusal, Rule};
 use simulator::attributes::ScoreAttributes;
 
-// The score of the wanted play, or how many plays stand between it and what was read.
+// The score of the wanted play, or how many plays stand between it and what was read. No Result, since neither is an error.
 #[derive(Clone, Copy)]
 pub enum Wanted {
     Ahead(u64),
@@ -30,32 +28,21 @@ impl Wanted {
     {
         match self {
             Wanted::Is(found) => Wanted::Is(found),
-            Wanted::Ahead(ahead) => {
-                if ahead == 0 {
-                    return Wanted::Is(score);
-                }
-                Wanted::Ahead(ahead - 1)
-            }
+            Wanted::Ahead(0) => Wanted::Is(score),
+            Wanted::Ahead(ahead) => Wanted::Ahead(ahead - 1),
         }
     }
 
-    // Behind one more play, which is good and is scored only where it is the wanted one.
+    // The same for a play that is good and is scored only where it is the wanted one. Not one method over a closure: of one that holds a `&MapFile` the
+    // caller does not learn what it returns.
     #[tactic(auto, unfolding(crate::specs::View::wanted_after))]
-    fn after_play(self, s: &[u8], map: Map, play: Play) -> Self
-        requires { IsMap s.now map }
-        ensures { AfterPlay s.now map play self result }
+    fn after_play(self, file: &MapFile, play: Play) -> Self
+        ensures { AfterPlay file.now.bytes.now file.now.map play self result }
     {
         match self {
             Wanted::Is(found) => Wanted::Is(found),
-            Wanted::Ahead(ahead) => {
-                if 0 < ahead {
-                    return Wanted::Ahead(ahead - 1);
-                }
-                match score_anew(s, map, play) {
-                    Ok(score) => Wanted::Is(score),
-                    Err(_) => self,
-                }
-            }
+            Wanted::Ahead(0) => file.score_anew(play).map_or(self, Wanted::Is),
+            Wanted::Ahead(ahead) => Wanted::Ahead(ahead - 1),
         }
     }
 }
@@ -64,25 +51,24 @@ impl Wanted {
 fn passes_as_many(play: Play, passed: u64, objects: u64) -> bool
     ensures { result ≡ passes_as_many play passed objects }
 {
-    least(play.passed_objects as u64, objects) == least(passed, objects)
+    u64::from(play.passed_objects).min(objects) == passed.min(objects)
 }
 
 // The plays from an offset on, whatever they passed, from marks: 9 takes no bonus, so that no spinner is walked for it.
-fn check_any(s: &[u8], map: Map, from: usize, former: Wanted) -> Result<Wanted, Refusal>
-    requires { AnyPlaying s.now map from former }
-    ensures { CheckedFrom s.now map from former result }
+fn check_any(file: &MapFile, from: usize, former: Wanted) -> Result<Wanted, Refusal>
+    requires { AnyPlaying file.now.bytes.now file.now.map from former }
+    ensures { CheckedFrom file.now.bytes.now file.now.map from former result }
 {
-    let marks = marks_of(s, map);
-    let mut at = from;
+    let s = file.bytes;
+    let marks = file.marks();
     let mut wanted = former;
-    while at < s.len() {
+    for at in (from..s.len()).step_by(Play::SIZE) {
         let play = play_at(s, at).map_err(|rule| rule.at(at))?;
-        let i = mark_before(map.objects, play);
-        if exceeds_map(play, attributes_from(s, map, marks.states[i], play)) {
+        let i = mark_before(file.map.objects, play);
+        if exceeds_map(play, file.attributes_from(marks.states[i], play)) {
             return Err(Rule::PlayExceeds.at(at));
         }
-        wanted = wanted.after_play(s, map, play);
-        at += Play::SIZE;
+        wanted = wanted.after_play(file, play);
     }
     Ok(wanted)
 }
@@ -113,42 +99,41 @@ fn needs_marks(play: Play, passed: u64, map: Map, plays: usize) -> bool {
 
 // A play behind its map, from the attributes of the first objects where it passed as many.
 fn score_behind(
-    s: &[u8],
-    map: Map,
+    file: &MapFile,
     a: ScoreAttributes,
     passed: u64,
     play: Play,
 ) -> Result<PlayScore, Rule>
-    requires { Attributed s.now passed map a }
-    ensures { ScoredOn s.now passed map a play result }
+    requires { Attributed file.now.bytes.now passed file.now.map a }
+    ensures { ScoredOn file.now.bytes.now passed file.now.map a play result }
 {
-    if passes_as_many(play, passed, map.objects) {
+    if passes_as_many(play, passed, file.map.objects) {
         return score_on(play, a);
     }
-    score_anew(s, map, play)
+    file.score_anew(play)
 }
 
-// The plays behind a map, given the attributes of its first objects. Marks are made only where many plays passed other counts than these.
+// The plays behind a map, given the attributes of its first objects. Marks are made only where many plays passed other counts than these: then
+// `check_any` goes on from the middle of this loop, so that one loop with a step for its parameter would need a third end beside good and refused.
 pub fn check_behind(
-    s: &[u8],
-    map: Map,
+    file: &MapFile,
     a: ScoreAttributes,
     passed: u64,
     index: u64,
 ) -> Result<Wanted, Refusal>
-    requires { Attributed s.now passed map a }
-    ensures { result ≡ checked_of index (scores_of (file_of s.now)) }
+    requires { Attributed file.now.bytes.now passed file.now.map a }
+    ensures { result ≡ checked_of index (scores_of (file_of file.now.bytes.now)) }
 {
-    let mut at = map.end;
+    let s = file.bytes;
+    let map = file.map;
     let mut wanted = Wanted::Ahead(index);
-    while at < s.len() {
+    for at in (map.end..s.len()).step_by(Play::SIZE) {
         let play = play_at(s, at).map_err(|rule| rule.at(at))?;
         if needs_marks(play, passed, map, (s.len() - at) / Play::SIZE) {
-            return check_any(s, map, at, wanted);
+            return check_any(file, at, wanted);
         }
-        let score = score_behind(s, map, a, passed, play).map_err(|rule| rule.at(at))?;
+        let score = score_behind(file, a, passed, play).map_err(|rule| rule.at(at))?;
         wanted = wanted.after(score);
-        at += Play::SIZE;
     }
     Ok(wanted)
 }
@@ -160,6 +145,6 @@ pub fn check_plays(s: &[u8], passed: u64) -> Result<(Map, ScoreAttributes), Refu
 {
     let map = read_passed(s, passed)?;
     let a = attributes_of(s, map);
-    check_behind(s, map, a, passed, u64::MAX)?;
+    check_behind(&MapFile { bytes: s, map }, a, passed, u64::MAX)?;
     Ok((map, a))
 }

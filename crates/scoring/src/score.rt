@@ -7,6 +7,7 @@ ghost use Rattle.scoring.specs.View.{listed_by};
 use crate::plays::{Wanted, check_behind, check_plays};
 use map_reader::attributes::attributes_of;
 use map_reader::map::read_passed;
+use marks::MapFile;
 use play_score::{PlayScore, score_given};
 use play_state::Play;
 use rules::refusal::Refusal;
@@ -29,12 +30,14 @@ pub fn score_play(s: &[u8], play: Play) -> Result<PlayScore, Refusal>
 }
 
 // A play that was asked for, where the file is good.
-fn listed(wanted: Wanted) -> Option<PlayScore>
-    ensures { result ≡ listed_by wanted }
-{
-    match wanted {
-        Wanted::Ahead(_) => None,
-        Wanted::Is(score) => Some(score),
+impl From<Wanted> for Option<PlayScore> {
+    ghost from_gives = { λ wanted r. r ≡ listed_by wanted };
+
+    fn from(wanted: Wanted) -> Option<PlayScore> {
+        match wanted {
+            Wanted::Ahead(_) => None,
+            Wanted::Is(score) => Some(score),
+        }
     }
 }
 
@@ -44,6 +47,6 @@ pub fn score_play_at(s: &[u8], index: u64) -> Result<Option<PlayScore>, Refusal>
 {
     let map = read_passed(s, u64::MAX)?;
     let a = attributes_of(s, map);
-    let wanted = check_behind(s, map, a, u64::MAX, index)?;
-    Ok(listed(wanted))
+    let wanted = check_behind(&MapFile { bytes: s, map }, a, u64::MAX, index)?;
+    Ok(wanted.into())
 }

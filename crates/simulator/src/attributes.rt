@@ -7,8 +7,8 @@ ghost use Rattle.simulator.specs.View.{times};
 
 use crate::legacy_score::NestedScorePerObject;
 use crate::legacy_score_simulator::{LegacyScoreAttributes, OsuLegacyScoreSimulator};
-use numbers::rounding::float;
 use spinner::StandardisedBonusScore;
+use std::num::nearest_u64_to_f64;
 
 // What the estimates take.
 #[derive(Clone, Copy)]
@@ -58,12 +58,14 @@ fn difficulty_attributes(
         n_repeats: nested.n_repeats as u32,
         n_ticks: nested.amount_of_small_ticks as u32,
         nested_score_per_object: nested.calculate(),
-        legacy_score_base_multiplier: float(multiplier),
-        maximum_legacy_combo_score: float(score.combo_score * multiplier),
+        legacy_score_base_multiplier: multiplier as f64,
+        maximum_legacy_combo_score: nearest_u64_to_f64(score.combo_score * multiplier),
     }
 }
 
+// In one with a board's read it takes registers from the loop over entries: 17 more instructions an entry.
 #[tactic(auto, unfolding(crate::specs::Attributes::score_attributes_of))]
+#[inline(never)]
 pub fn score_attributes(
     score: OsuLegacyScoreSimulator,
     nested: NestedScorePerObject,

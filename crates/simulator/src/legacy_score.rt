@@ -5,9 +5,9 @@ ghost use Rattle.simulator.specs.Nested.{spins_score, spinner_score_of, nested_s
 ghost use Rattle.simulator.specs.Limits.{Counted, nested_count};
 ghost use Rattle.simulator.specs.View.{kind_of};
 
-use numbers::rounding::float;
 use records::hit_object::{HitObject, HitObjectKind, Slider, Spinner};
 use spinner::{HalfSpins, half_spins};
+use std::num::nearest_u64_to_f64;
 
 const SPIN_SCORE: u64 = 100;
 
@@ -15,7 +15,6 @@ const BONUS_SPIN_SCORE: u64 = 1000;
 
 // A spinner's full turns, and its bonus turns less half of the full ones.
 pub fn score_of_spins(h: HalfSpins) -> u64
-    requires { (h.total < 2 ^ 31) × (h.required < 2 ^ 31) }
     ensures { result ≡ spins_score h.total h.required }
 {
     let full_spins = h.total / 2;
@@ -85,8 +84,8 @@ impl NestedScorePerObject {
     {
         // A head and a tail for each slider, and the repeats.
         let amount_of_big_ticks = self.n_sliders * 2 + self.n_repeats;
-        let slider_score = float(amount_of_big_ticks) * 30.0
-            + float(self.amount_of_small_ticks) * 10.0;
-        (slider_score + float(self.spinner_score)) / float(self.object_count)
+        let slider_score = amount_of_big_ticks as f64 * 30.0
+            + self.amount_of_small_ticks as f64 * 10.0;
+        (slider_score + nearest_u64_to_f64(self.spinner_score)) / self.object_count as f64
     }
 }

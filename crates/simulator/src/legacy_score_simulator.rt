@@ -7,12 +7,12 @@ ghost use Rattle.simulator.specs.Attributes.{bonus_ratio_of, legacy_attributes_o
 ghost use Rattle.simulator.specs.Limits.{Within, Bounded};
 ghost use Rattle.simulator.specs.View.{kind_of, times};
 
-use numbers::rounding::float;
 use records::hit_object::{HitObjectKind, Slider, Spinner};
 use ruleset::hit_result::HitResult;
 use spinner::{LegacyBonusScore, StandardisedBonusScore};
+use std::num::nearest_u64_to_f64;
 
-#[derive(Clone, Copy)]
+#[derive(Clone, Copy, Default)]
 pub struct OsuLegacyScoreSimulator {
     pub combo: u64,
     pub accuracy_score: u64,
@@ -45,13 +45,7 @@ impl OsuLegacyScoreSimulator {
     pub fn new() -> Self
         ensures { result ≡ fresh }
     {
-        OsuLegacyScoreSimulator {
-            combo: 0,
-            accuracy_score: 0,
-            combo_score: 0,
-            legacy_bonus_score: LegacyBonusScore(0),
-            standardised_bonus_score: StandardisedBonusScore(0),
-        }
+        OsuLegacyScoreSimulator::default()
     }
 
     pub fn circle(self) -> Self
@@ -111,7 +105,8 @@ impl OsuLegacyScoreSimulator {
         if self.legacy_bonus_score.0 == 0 {
             0.0
         } else {
-            float(self.standardised_bonus_score.0) / float(self.legacy_bonus_score.0)
+            nearest_u64_to_f64(self.standardised_bonus_score.0)
+                / nearest_u64_to_f64(self.legacy_bonus_score.0)
         }
     }
 

@@ -1,10 +1,10 @@
 -- Document 02, §1: what a call with factors answers: the answer of the same call without them, then 14, then the values. One definition for the call
 -- on a map file and for the read of a board.
-use Rattle.std.specs.Prelude.{Bool, not, ◌&&◌, ◌||◌, Float}
-use Rattle.std.specs.Float.Ieee.{le}
+use Rattle.std.specs.Prelude.{Bool, not, ◌||◌, Float}
 use Rattle.numbers.specs.Floats.{whole}
 use Rattle.rules.specs.Refusals.{OrRefusal, good, refused, refusal_at, pick, FACTOR}
 use Rattle.play_state.specs.declared.Play.{Play}
+use Rattle.records.specs.Fields.{within}
 use Rattle.play_score.specs.declared.PlayScore.{PlayScore}
 use Rattle.slider_breaks.specs.SliderBreaks.{estimated_breaks}
 use Rattle.slider_breaks.specs.declared.calculator.SliderFactors.{SliderFactors}
@@ -17,7 +17,7 @@ pub record BreaksScore : Type 0 where
 
 -- "the two top-weighted factors, each from 0 to 10": by value, so that -0.0 passes; what is not finite does not
 unfoldable pub is_factor : Float → Bool
-is_factor x = le (whole 0) x && le x (whole 10)
+is_factor = within (whole 0) (whole 10)
 
 unfoldable pub factors_bad : SliderFactors → Bool
 factors_bad f = not (is_factor f.aim) || not (is_factor f.speed)

@@ -1,36 +1,27 @@
 // Of `OsuPerformanceCalculator`: the estimated slider breaks.
 ghost use Rattle.std.specs.Prelude.{◌≡◌};
-ghost use Rattle.slider_breaks.specs.SliderBreaks.{no_breaks, adjusted_of, both_of, estimated_breaks};
+ghost use Rattle.slider_breaks.specs.SliderBreaks.{adjusted_of, both_of, estimated_breaks};
 
 use crate::difficulty::{logistic, smoothstep};
 use estimates::calculator::is_classic;
 use numbers::minmax::min;
 use play_state::Play;
 
-// The Rust's `aim_top_weighted_slider_factor` and `speed_top_weighted_slider_factor`.
+// The Rust's `aim_top_weighted_slider_factor` and `speed_top_weighted_slider_factor`, as a host in C gives them.
+#[repr(C)]
 #[derive(Clone, Copy)]
 pub struct SliderFactors {
     pub aim: f64,
     pub speed: f64,
 }
 
-// The Rust's `aim_estimated_slider_breaks` and `speed_estimated_slider_breaks`.
-#[derive(Clone, Copy)]
+// The Rust's `aim_estimated_slider_breaks` and `speed_estimated_slider_breaks`, as a host in C gets them; none by default. A type of their own, so that
+// no factors pass for breaks.
+#[repr(C)]
+#[derive(Clone, Copy, Default)]
 pub struct SliderBreaks {
     pub aim: f64,
     pub speed: f64,
-}
-
-impl SliderBreaks {
-    #[tactic(auto, unfolding(crate::specs::SliderBreaks::no_breaks, numbers::proofs::Literals::of_bits, numbers::proofs::Literals::of_int, numbers::proofs::Literals::round))]
-    pub fn none() -> SliderBreaks
-        ensures { result ≡ no_breaks }
-    {
-        SliderBreaks {
-            aim: 0.0,
-            speed: 0.0,
-        }
-    }
 }
 
 // The breaks of one factor from their count, which is at most n100; `step` and `likely` are those of `smoothstep` and `logistic`.
@@ -54,7 +45,7 @@ pub fn calculate_estimated_slider_breaks(
     ensures { result ≡ both_of play highest effective factors }
 {
     if !is_classic(play.origin) || play.hitresults.n100 == 0 {
-        return SliderBreaks::none();
+        return SliderBreaks::default();
     }
     let n100 = f64::from(play.hitresults.n100);
     let missed_combo_percent = 1.0 - f64::from(play.max_combo) / f64::from(highest);
@@ -79,6 +70,6 @@ pub fn slider_breaks(
     if effective > 0.0 {
         calculate_estimated_slider_breaks(play, highest, effective, factors)
     } else {
-        SliderBreaks::none()
+        SliderBreaks::default()
     }
 }

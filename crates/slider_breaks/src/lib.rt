@@ -5,6 +5,7 @@ ghost use Rattle.std.specs.Prelude.{◌≡◌};
 ghost use Rattle.slider_breaks.specs.Given.{is_factor, factors_bad};
 
 use crate::calculator::SliderFactors;
+use records::fields::is_within;
 
 pub mod calculator; // the breaks by the Rust's formula
 pub mod difficulty; // its two curves
@@ -17,7 +18,7 @@ impl SliderFactors {
 fn is_factor(x: f64) -> bool
     ensures { result ≡ is_factor x }
 {
-    (x >= 0.0) & (x <= SliderFactors::MAX)
+    is_within(x, 0.0, SliderFactors::MAX)
 }
 
 // Number 14 is given where this is so and nothing else is refused.

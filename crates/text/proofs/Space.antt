@@ -1,6 +1,6 @@
 -- Laws of a text in a space: two texts one behind the other are one text. Each goes by the space and the place, since `put_at` and `behind` step
 -- through both. Assumes nothing.
-use mathlib.Core.Path.{◌≡◌, ap, ◌∙◌}
+use mathlib.Core.Path.{◌≡◌, ap, ◌∙◌, refl}
 use Prim.Native.Nat.{ℕ, zero, suc, ◌≤◌}
 use native.Mathlib.Nat.{suc-add, zero-add, add-zero, sub-zero, zero-sub, suc-sub-suc, suc-min-suc, min-zero}
 use native.Mathlib.Omega.{arith}
@@ -8,6 +8,8 @@ use mathlib.Core.List.{List, [], ◌∷◌, ◌++◌, append-nil}
 use lib.ListN.{length, take, drop, length-append, take-append-drop}
 use lib.Seq.{take_all, take-nil, drop-nil, take-append_seam}
 use Rattle.text.specs.Space.{put_at, behind}
+use Rattle.text.specs.Pages.{put}
+use Rattle.text.specs.declared.page.Page.{Page}
 
 -- ---- one step through the space
 
@@ -66,24 +68,9 @@ put_front l t h = simp (sub-zero, zero-add, take_all (length l) t h)
 pub take_put_front : (l t : List ℕ) → length t ≤ length l → take (length t) (put_at l 0 t) ≡ t
 take_put_front l t h = simp (put_front l t h) (take-append_seam t (drop (length t) l))
 
--- ---- a text written piece by piece
+-- ---- two texts on a page
 
--- after the text t was written to l from `at` on, the space is s, and p is the place behind it
-pub record Written (l : List ℕ) (at : ℕ) (t s : List ℕ) (p : ℕ) : Type 0 where
-  pub place : p ≡ behind l at t
-  pub space : s ≡ put_at l at t
+pub put-put : (p : Page) (x y : List ℕ) → put (put p x) y ≡ put p (x ++ y)
+put-put p x y = rw (put_put p.space.now p.at x y, behind-behind p.space.now p.at x y) refl
 
--- a function's two promises
-abbrev pub Puts : List ℕ → ℕ → List ℕ → List ℕ → ℕ → Type 0
-Puts l at t s p = (p ≡ behind l at t) × (s ≡ put_at l at t)
-
--- one more piece
-pub next : {l : List ℕ} {at : ℕ} {t s : List ℕ} {p : ℕ} → Written l at t s p → (y : List ℕ) {s' : List ℕ} {p' : ℕ} → Puts s p y s' p'
-    → Written l at (t ++ y) s' p'
-next {l} {at} {t} {s} {p} w y (place, space) =
-    record {
-      place = rw (w.space, w.place) at place ∙ behind-behind l at t y;
-      space = rw (w.space, w.place) at space ∙ put_put l at t y;
-    }
-
-pub ruleset pieces = (put_put, behind-behind, length_put)
+pub ruleset pieces = (put-put)

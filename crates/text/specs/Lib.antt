@@ -1,4 +1,5 @@
 pub mod Ascii
 mod Examples
 pub mod Numbers
+pub mod Pages
 pub mod Space

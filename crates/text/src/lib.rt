@@ -1,9 +1,8 @@
-// Text written into a lent space, piece by piece. Each function takes the place where its piece starts and answers the place behind it; what does
-// not fit is left out. All are total, and their contracts name the definitions of specs/.
+// Text written into a lent space, piece by piece. All functions are total, and their contracts name the definitions of specs/.
 #![tactic(auto)]
 
-mod digits;
-mod pieces;
+mod page;
+mod values;
 
-pub use digits::{put_decimal, put_float};
-pub use pieces::put_text;
+pub use page::Page;
+pub use values::Text;

@@ -60,9 +60,6 @@ laid_kept e (o ∷ os) b = kept_both (kept_put b e (entry_of (o ∷ []))) (laid_
 pub laid-length : (e : ℕ) (os : List Object) (b : List ℕ) → length (laid e os b) ≡ length b
 laid-length e os b = (laid_kept e os b).size
 
-pub laid-drop : (e : ℕ) (os : List Object) (b : List ℕ) (n : ℕ) → (e + length os) * entry_words ≤ n → drop n (laid e os b) ≡ drop n b
-laid-drop e os b = (laid_kept e os b).rest
-
 pub laid_none : (e : ℕ) (b : List ℕ) → laid e [] b ≡ b
 unfolding laid
 laid_none e b = refl

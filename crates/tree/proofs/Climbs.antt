@@ -1,16 +1,16 @@
 -- The steps of `climbed`, as the code takes them.
 use Rattle.rules.specs.declared.refusal.Rule.{Rule}
 use Prim.Native.Nat.{ℕ, zero, suc, ◌-◌, ◌/◌, ◌%◌, ◌≤◌}
-use mathlib.Core.Path.{◌≡◌, refl, sym, ap, ◌∙◌}
-use mathlib.Core.Bool.{Bool, true, false, not, cond}
+use mathlib.Core.Path.{◌≡◌, refl, sym, ap}
+use mathlib.Core.Bool.{true, cond}
 use mathlib.Core.List.{List}
 use native.Mathlib.Omega.{arith}
 use native.Mathlib.Decide.{ℕ_discrete}
 use native.Mathlib.Numerals.{sub-one}
-use borrow.Author.Tests.{eq-eqb, ne_eqb, le-ltb, ltb-false}
-use lib.Dec.{ltb, eqb, lit<}
+use borrow.Author.Tests.{eq-eqb, ne_eqb, le-ltb}
+use lib.Dec.{eqb, lit<}
 use Rattle.rules.specs.Limits.{max_bonus}
-use Rattle.rules.specs.Refusals.{Checked, good, refused, ◌>>=◌, ◌>>◌, refuse◌when◌, BONUS, BOARD}
+use Rattle.rules.specs.Refusals.{Checked, good, refused, ◌>>=◌, ◌>>◌, refuse◌when◌}
 use Rattle.entries.specs.Entry.{joined, in_limits}
 use Rattle.entries.specs.Words.{entry_at, put_entry}
 use Rattle.entries.specs.declared.entry.Entry.{Entry}
@@ -19,7 +19,7 @@ use Rattle.tree.specs.Put.{beside_of, above_of, climbed, put_of, or_else}
 use Rattle.rules.proofs.Laws.{never}
 use Rattle.rules.proofs.Steps.{bind_good, bind_refused, when_true, when_false}
 use Rattle.entries.proofs.Limits.{word_le}
-use Rattle.tree.proofs.Light.{light_of, legacy_in}
+use Rattle.tree.proofs.Light.{light_of}
 
 -- the pair of e and the entry beside it
 pub beside_pair : (e : ℕ) → beside_of e / 2 ≡ e / 2
@@ -40,25 +40,6 @@ limited-in_limits e h = limited_low e (light_of e h) (word_le e h 5 (lit< tt))
 pub above_is : (e : ℕ) (v w u : Entry) → in_limits w ≡ true → cond (eqb (e % 2) 0) (joined v w) (joined w v) ≡ u → above_of e v w ≡ limited u
 unfolding above_of ◌>>◌ refuse◌when◌
 above_is e v w u h q = simp h (ap limited q)
-
--- ---- an entry that passes is within all limits
-pub limited_in : (e u : Entry) → limited e ≡ good u → in_limits u ≡ true
-unfolding limited ◌>>◌ refuse◌when◌
-limited_in e u h = go (in_limits (without_legacy e)) refl (ltb max_bonus e.legacy_bonus_score) refl h
-  where
-    go : (a : Bool) → in_limits (without_legacy e) ≡ a → (b : Bool) → ltb max_bonus e.legacy_bonus_score ≡ b
-        → ((refuse BOARD when not a) >> ((refuse BONUS when b) >> good e)) ≡ good u → in_limits u ≡ true
-    go false p b q h = never (cc)
-    go true p true q h = never (cc)
-    go true p false q h = let same : e ≡ u = cc in ap in_limits (sym same) ∙ legacy_in e p (ltb-false max_bonus _ q)
-
-pub above_in : (e : ℕ) (v w u : Entry) → above_of e v w ≡ good u → in_limits u ≡ true
-unfolding above_of ◌>>◌ refuse◌when◌
-above_in e v w u h = go (in_limits w) h
-  where
-    go : (a : Bool) → ((refuse BOARD when not a) >> limited (cond (eqb (e % 2) 0) (joined v w) (joined w v))) ≡ good u → in_limits u ≡ true
-    go false h = never (cc)
-    go true h = limited_in (cond (eqb (e % 2) 0) (joined v w) (joined w v)) u h
 
 -- ---- the steps of a climb
 pub at_top : (n : ℕ) (b : List ℕ) (e : ℕ) (v : Entry) → n ≡ 0 → climbed n b e v ≡ good (put_entry b e v)
@@ -85,7 +66,4 @@ pub told_stop : (x : Checked (List ℕ)) (n : Rule) → refused n ≡ put_of x �
 told_stop (refused m) n e = cc
 told_stop (good l) n e = never (cc)
 
-pub ruleset climbing = (at_top, one_up, told_put, told_stop, above_in, beside_pair, bind_good, bind_refused, when_true, when_false)
-
-pub is_good_lem : (x : Checked (List ℕ)) (b written : List ℕ) → x ≡ good written → ((good tt) ≡ put_of x) × (written ≡ or_else x b)
-is_good_lem x b written e = (sym (ap put_of e), sym (ap (λ (y : Checked (List ℕ)). or_else y b) e))
+pub ruleset climbing = (at_top, one_up, told_put, told_stop, beside_pair, bind_good, bind_refused, when_true, when_false)

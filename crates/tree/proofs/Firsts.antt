@@ -2,7 +2,7 @@
 use Rattle.rules.specs.declared.refusal.Rule.{Rule}
 use Prim.Native.Nat.{ℕ, zero, suc, ◌+◌, ◌-◌, ◌*◌, ◌/◌, ◌^◌, ◌≤◌, ◌<◌}
 use mathlib.Core.Path.{◌≡◌, refl, sym, ap, ◌∙◌, subst}
-use mathlib.Core.Bool.{Bool, true, false, not, cond}
+use mathlib.Core.Bool.{Bool, true, false, cond}
 use mathlib.Core.List.{List}
 use native.Mathlib.Omega.{arith}
 use native.Mathlib.Nat.{pow-suc, not-suc-le-zero, mul_assoc, mul-le-mul_left, le-mul_of_pos_right, add-mul, one-mul}
@@ -11,27 +11,13 @@ use lib.Dec.{ltb}
 use lib.ListN.{length}
 use lib.Pow.{pow_pos}
 use Rattle.rules.specs.Limits.{max_objects}
-use Rattle.rules.specs.Refusals.{Checked, good, refused, ◌>>=◌, ◌>>◌, refuse◌when◌, BOARD}
-use Rattle.entries.specs.Entry.{none, joined, in_limits, place_words, entry_words}
+use Rattle.rules.specs.Refusals.{Checked, good, refused, ◌>>=◌}
+use Rattle.entries.specs.Entry.{none, place_words, entry_words}
 use Rattle.entries.specs.Words.{entry_at}
 use Rattle.entries.specs.declared.entry.Entry.{Entry}
-use Rattle.tree.specs.Limited.{limited, after_of}
+use Rattle.tree.specs.Limited.{after_of}
 use Rattle.tree.specs.First.{walked, taken, turned_of}
 use Rattle.tree.specs.declared.first.Prefix.{Prefix}
-use Rattle.tree.proofs.Climbs.{limited_in}
-use Rattle.rules.proofs.Laws.{never}
-
-pub none_in : in_limits none ≡ true
-unfolding in_limits
-none_in = refl
-
-pub after_in : (a w u : Entry) → after_of a w ≡ good u → in_limits u ≡ true
-unfolding after_of ◌>>◌ refuse◌when◌
-after_in a w u h = go (in_limits w) h
-  where
-    go : (x : Bool) → ((refuse BOARD when not x) >> limited (joined a w)) ≡ good u → in_limits u ≡ true
-    go false h = never (cc)
-    go true h = limited_in (joined a w) u h
 
 half_pow : (n : ℕ) → 0 < n → 2 ^ n / 2 ≡ 2 ^ (n - 1)
 half_pow zero h = absurd (not-suc-le-zero h)
@@ -80,7 +66,6 @@ pub record Walking (b : List ℕ) (levels : ℕ) (t₀ : Prefix) (left : ℕ) (t
   pub same : walked_at left b t ≡ walked_at levels b t₀
   pub width : t.width ≡ 2 ^ left / 2
   pub reach : t.x * t.width + t.rest ≤ 2 * t₀.width
-  pub fit : in_limits t.sum ≡ true
   pub cap : t₀.width ≤ max_objects
   pub room : t₀.width * place_words ≤ length b
 
@@ -117,7 +102,6 @@ module _ {b : List ℕ} {levels left : ℕ} {t₀ t : Prefix} (k : Walking b lev
           same = sym (skips b t.x t.rest t.sum left pos (subst (λ (m : ℕ). t.rest < m) width_is h)) ∙ k.same;
           width = ap (λ (m : ℕ). m / 2) width_is;
           reach = omega (arith, less, reach);
-          fit = k.fit;
           cap = k.cap;
           room = k.room;
         }
@@ -136,7 +120,6 @@ module _ {b : List ℕ} {levels left : ℕ} {t₀ t : Prefix} (k : Walking b lev
               ∙ k.same;
           width = ap (λ (m : ℕ). m / 2) width_is;
           reach = omega (arith, less, reach, m, o, h);
-          fit = after_in t.sum (entry_at b t.x) u q;
           cap = k.cap;
           room = k.room;
         }
@@ -172,9 +155,9 @@ module _ {b : List ℕ} {levels left : ℕ} {t₀ t : Prefix} (k : Walking b lev
   pub at_last : left ≤ 0 → good t.sum ≡ walked_at levels b t₀
   at_last h = sym (sym k.same ∙ at_end left b t.x t.rest t.sum h)
 
-pub walking_start : (b : List ℕ) (levels cap p : ℕ) → cap ≡ 2 ^ levels → cap ≤ max_objects → p ≤ cap → cap * place_words ≤ length b
-    → Walking b (levels + 1) (record { x = 1; width = cap; rest = p; sum = none }) (levels + 1) (record { x = 1; width = cap; rest = p; sum = none })
-walking_start b levels cap p e few least room =
+pub walking_start : (b : List ℕ) (levels p : ℕ) → 2 ^ levels ≤ max_objects → p ≤ 2 ^ levels → 2 ^ levels * place_words ≤ length b
+    → Walking b (levels + 1) (record { x = 1; width = 2 ^ levels; rest = p; sum = none }) (levels + 1) (record { x = 1; width = 2 ^ levels; rest = p; sum = none })
+walking_start b levels p few least room =
     let z : levels + 1 - 1 ≡ levels = omega arith in
     let w : 2 ^ (levels + 1) / 2 ≡ 2 ^ levels = half_pow (levels + 1) (omega arith) ∙ ap (λ (n : ℕ). 2 ^ n) z in
-    record { same = refl; width = e ∙ sym w; reach = omega (arith, least); fit = none_in; cap = few; room = room }
+    record { same = refl; width = sym w; reach = omega (arith, least); cap = few; room = room }

@@ -1,6 +1,6 @@
 -- The steps of `walked` by the binary digits of p, and why a sum within its limits needs no other check: it only grew.
 use Prim.Native.Nat.{ℕ, zero, suc, ◌+◌, ◌-◌, ◌*◌, ◌/◌, ◌^◌, ◌≤◌, ◌<◌}
-use mathlib.Core.Path.{◌≡◌, refl, sym, ap, ◌∙◌, subst}
+use mathlib.Core.Path.{◌≡◌, refl, sym, ap, ◌∙◌}
 use mathlib.Core.Bool.{Bool, true, false, not}
 use mathlib.Core.List.{List}
 use native.Mathlib.Omega.{arith}
@@ -58,22 +58,22 @@ sum_told a w u h = go (in_limits w) refl h
     go true e h = (e, cc)
 
 -- what the loop keeps: where the walk stands, and that it stands there if the sum is within its limits
-pub record Summing (b : List ℕ) (levels cap p done rest : ℕ) (sum : Entry) : Type 0 where
+pub record Summing (b : List ℕ) (levels p done rest : ℕ) (sum : Entry) : Type 0 where
   pub level : ℕ
   pub x : ℕ
   pub taken : ℕ
   pub same : in_limits sum ≡ true → walked level b x rest sum ≡ walked (levels + 1) b 1 p none
   pub low : rest < 2 ^ level
   pub here : x * 2 ^ level ≡ 2 * done
-  pub all : done + rest ≡ cap + p
+  pub all : done + rest ≡ 2 ^ levels + p
   pub few : taken + level ≤ levels + 1
   pub sums : SumOf taken sum
   pub first : sum.first_no_slider ≤ 1
 
-pub summing_start : (b : List ℕ) (levels cap p : ℕ) → cap ≡ 2 ^ levels → p ≤ cap → Summing b levels cap p cap p none
-summing_start b levels cap p e least =
-    let d : 2 ^ (levels + 1) ≡ cap * 2 = pow-add 2 levels 1 ∙ ap (λ (m : ℕ). m * 2) (sym e) in
-    let some : 0 < cap = subst (λ (m : ℕ). 0 < m) (sym e) (pow_pos levels) in
+pub summing_start : (b : List ℕ) (levels p : ℕ) → p ≤ 2 ^ levels → Summing b levels p (2 ^ levels) p none
+summing_start b levels p least =
+    let d : 2 ^ (levels + 1) ≡ 2 ^ levels * 2 = pow-add 2 levels 1 in
+    let some = pow_pos levels in
     record {
       level = levels + 1;
       x = 1;
@@ -87,7 +87,7 @@ summing_start b levels cap p e least =
       first = omega arith;
     }
 
-module _ {b : List ℕ} {levels cap p done rest : ℕ} {sum : Entry} (k : Summing b levels cap p done rest sum) where
+module _ {b : List ℕ} {levels p done rest : ℕ} {sum : Entry} (k : Summing b levels p done rest sum) where
   -- the largest entry that covers no more than is left, of level n
   module _ (n : ℕ) (le : 2 ^ n ≤ rest) (lt : rest < 2 * 2 ^ n) where
     below : n < k.level
@@ -121,8 +121,8 @@ module _ {b : List ℕ} {levels cap p done rest : ℕ} {sum : Entry} (k : Summin
     entry_is : done / 2 ^ n ≡ entry
     entry_is = ap (λ (m : ℕ). m / 2 ^ n) (sym entry_here) ∙ mul-div_cancel entry (pow_pos n)
 
-    entry_inside : p ≤ cap → cap * place_words ≤ length b → done / 2 ^ n * entry_words + entry_words ≤ length b
-    entry_inside least room =
+    pub inside : p ≤ 2 ^ levels → 2 ^ levels * place_words ≤ length b → done / 2 ^ n * entry_words + entry_words ≤ length b
+    inside least room =
         let m = le-mul_of_pos_right (entry + 1) (pow_pos n) in
         let d = add-mul entry 1 (2 ^ n) in
         let o = one-mul (2 ^ n) in
@@ -132,7 +132,7 @@ module _ {b : List ℕ} {levels cap p done rest : ℕ} {sum : Entry} (k : Summin
 
     -- the entry taken
     entry_taken : levels ≤ max_levels → in_limits (entry_at b (done / 2 ^ n)) ≡ true
-        → Summing b levels cap p (done + 2 ^ n) (rest - 2 ^ n) (joined sum (entry_at b (done / 2 ^ n)))
+        → Summing b levels p (done + 2 ^ n) (rest - 2 ^ n) (joined sum (entry_at b (done / 2 ^ n)))
     entry_taken short fit =
         let h = below in
         let f = k.few in
@@ -172,15 +172,9 @@ module _ {b : List ℕ} {levels cap p done rest : ℕ} {sum : Entry} (k : Summin
             rw z at (takes b entry rest sum (suc n) _ (omega arith) (rw z le) q) in
             sym step ∙ sym (skips_all up (suc n) b k.x rest sum low_n) ∙ ap (λ (m : ℕ). walked m b k.x rest sum) level_is ∙ k.same was
 
-  -- the same as the code has it: the width of the entry, and the sum as it was told
-  module _ (n w : ℕ) (is : w ≡ 2 ^ n) (le : w ≤ rest) (lt : rest < 2 * w) where
-    pub inside : p ≤ cap → cap * place_words ≤ length b → done / 2 ^ n * entry_words + entry_words ≤ length b
-    inside = entry_inside n (rw is at le) (rw is at lt)
-
-    pub summing_next : levels ≤ max_levels → (u : Entry) → good u ≡ sum_of sum (entry_at b (done / 2 ^ n)) → Summing b levels cap p (done + w) (rest - w) u
-    summing_next short u told =
-        let h = sum_told sum (entry_at b (done / 2 ^ n)) u told in
-        rw (is, h.1) (entry_taken n (rw is at le) (rw is at lt) short h.0)
+    -- the same as the code has it: the width of the entry, and the sum as it was told
+    pub summing_next : levels ≤ max_levels → (w : ℕ) → w ≡ 2 ^ n → (u : Entry) → good u ≡ sum_of sum (entry_at b (done / 2 ^ n)) → Summing b levels p (done + w) (rest - w) u
+    summing_next short w is u told = let h = sum_told sum (entry_at b (done / 2 ^ n)) u told in rw (is, h.1) (entry_taken short h.0)
 
   pub summed : rest ≤ 0 → in_limits sum ≡ true → good sum ≡ walked (levels + 1) b 1 p none
   summed h fit =

@@ -1,4 +1,4 @@
-pub mod Single
+pub mod Checks
 pub mod Levels
 pub mod Light
 pub mod Climbs

@@ -141,7 +141,7 @@ module _ {levels left at : ℕ} {sum : Entry} (k : Rising levels left at sum) (s
         taken = suc k.taken;
         few = omega (arith, f, is);
         path = half_path n at (subst (λ (m : ℕ). 2 ^ m ≤ at) is k.path);
-        sums = joined_either (SumOf (suc k.taken)) at sum w (sum_of-joined k.taken sum w room k.sums fit) (sum_of_led k.taken sum w room k.sums k.count fit);
+        sums = joined_either (SumOf (suc k.taken)) at sum w (sum_of-joined k.taken sum w room k.sums fit) (sum_of_led k.taken sum w room k.sums fit k.count);
         count = joined_either (λ (j : Entry). j.object_count ≤ suc k.taken * max_objects) at sum w counted counted';
       }
     where

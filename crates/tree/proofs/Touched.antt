@@ -15,7 +15,7 @@ use Rattle.tree.specs.Size.{levels_of, cap_of}
 use Rattle.tree.specs.Board.{covered, Covers, own, left, right}
 use Rattle.tree.specs.Put.{climbed}
 use Rattle.tree.proofs.Levels.{levels_most}
-use Rattle.tree.proofs.Covers.{deeper, covered_leaf, covered_node, covered_off, one_set, Off, Top, top_of, top_two, off_self, off_below, even, odd}
+use Rattle.tree.proofs.Covers.{deeper, covered_leaf, covered_node, one_set, Off, Top, top_of, top_two, off_self, off_below, even, odd}
 use Rattle.tree.proofs.Kept.{climb_keeps}
 
 -- ---- the way from a place to the top is what covers the place
@@ -61,9 +61,6 @@ halved (suc n) e x h = go (λ off. halved n (e / 2) x off) (ℕ_discrete x e)
 
 -- ---- an entry covers a place just where the object put there is among those that it covers
 module _ (os : List Object) (p : ℕ) (o : Object) where
-  pub covered_without : (l : ℕ) → p < 2 ^ l → (n x : ℕ) → 1 ≤ x → (Covers (2 ^ l) x p → ⊥) → covered n (2 ^ l) (set os p o) x ≡ covered n (2 ^ l) os x
-  covered_without l in_p n x h not = covered_off os l p o (top_of l p in_p) n x h (off_unless l p in_p x not)
-
   abbrev pub Among : List Object → Type 0
   Among ps = (xs : List Object) × (ys : List Object) × (ps ≡ xs ++ o ∷ ys)
 

@@ -3,8 +3,9 @@ ghost use Rattle.std.specs.Prelude.{◌≡◌, ◌+◌, ◌-◌, ◌*◌, ◌≤
 ghost use Rattle.entries.specs.Entry.{entry_words, place_words};
 ghost use Rattle.tree.specs.Build.{cleared, emptied, raised, Raises, filled};
 
+use crate::combine::halves_joined;
 use entries::entry::Entry;
-use entries::words::{load, store};
+use entries::words::store;
 
 // n zero entries from e on.
 #[tactic(auto, using(crate::proofs::Builds::clearing))]
@@ -23,9 +24,8 @@ fn raise(b: &mut [u64], n: usize)
     ensures { b.new ≡ raised n b.old }
 {
     for e in (1..n + 1).rev() {
-        let left = load(b, e * 2);
-        let right = load(b, e * 2 + 1);
-        store(b, e, left.join(right));
+        let joined = halves_joined(b, e);
+        store(b, e, joined);
     }
 }
 

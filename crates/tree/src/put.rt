@@ -1,10 +1,12 @@
 // An entry put in the tree, with what follows from it above.
 ghost use Rattle.std.specs.Prelude.{◌≡◌, true, ◌+◌, ◌*◌, ◌/◌, ◌≤◌, length};
 ghost use Rattle.rules.specs.Limits.{max_levels, max_objects};
-ghost use Rattle.entries.specs.Entry.{in_limits, SumOf, place_words};
+ghost use Rattle.rules.specs.Refusals.{good};
+ghost use Rattle.entries.specs.Entry.{SumOf, place_words};
 ghost use Rattle.tree.specs.Put.{beside_of, above_of, climbed, put_of, or_else, joined_at, Clear, written_up};
 
-use crate::combine::limit;
+use crate::combine::{halves_joined, limit};
+use entries::checked::CheckedEntry;
 use entries::entry::Entry;
 use entries::words::{load, store};
 use rules::refusal::Rule;
@@ -20,14 +22,11 @@ fn beside(e: usize) -> usize
 }
 
 // The entry above e, from v at e and what was read beside it.
-#[tactic(auto, using(crate::proofs::Single::singles), unfolding(crate::specs::Put::above_of))]
-fn above(e: usize, v: Entry, read: Entry) -> Result<Entry, Rule>
-    requires { in_limits v ≡ true }
+#[tactic(auto, using(crate::proofs::Checks::checks))]
+fn above(e: usize, v: CheckedEntry, read: Entry) -> Result<CheckedEntry, Rule>
     ensures { result ≡ above_of e v read }
 {
-    if !read.within() {
-        return Err(Rule::Board);
-    }
+    let read = read.checked()?;
     if e % 2 == 0 {
         return limit(v.join(read));
     }
@@ -36,32 +35,32 @@ fn above(e: usize, v: Entry, read: Entry) -> Result<Entry, Rule>
 
 // Reads the other half of each entry above e, from the bottom up, and writes only behind the last check.
 #[tactic(auto, using(crate::proofs::Climbs::climbing))]
-pub fn climb(b: &mut [u64], levels: usize, e: usize, v: Entry) -> Result<(), Rule>
-    requires { (e / 2 * place_words + place_words ≤ length b.old) × (in_limits v ≡ true) }
+pub fn climb(b: &mut [u64], levels: usize, e: usize, v: CheckedEntry) -> Result<(), Rule>
+    requires { e / 2 * place_words + place_words ≤ length b.old }
     ensures value { result ≡ put_of (climbed levels b.old e v) }
     ensures b_after { b.new ≡ or_else (climbed levels b.old e v) b.old }
 {
     if levels == 0 {
-        store(b, e, v);
+        store(b, e, v.entry);
         return Ok(());
     }
     let joined = above(e, v, load(b, beside(e)))?;
     climb(b, levels - 1, e / 2, joined)?;
-    store(b, e, v);
+    store(b, e, v.entry);
     Ok(())
 }
 
 // The entry above e, unchecked.
-fn joined_at(e: usize, v: Entry, read: Entry) -> Entry
-    requires { SumOf (max_levels + 1) v × (v.object_count ≤ (max_levels + 1) * max_objects) × (in_limits read ≡ true) }
+fn joined_at(e: usize, v: Entry, read: CheckedEntry) -> Entry
+    requires { SumOf (max_levels + 1) v × (v.object_count ≤ (max_levels + 1) * max_objects) }
     ensures { result ≡ joined_at e v read }
 {
     v.join_at(read, e % 2 == 0)
 }
 
 // Whether all that a climb reads and combines is within its limits. Sums only grow, so that the last one is checked for all.
-fn is_clear(b: &[u64], levels: usize, e: usize, v: Entry) -> bool
-    requires { (e / 2 * place_words + place_words ≤ length b.now) × (in_limits v ≡ true) }
+fn is_clear(b: &[u64], levels: usize, e: usize, v: CheckedEntry) -> bool
+    requires { e / 2 * place_words + place_words ≤ length b.now }
     ensures { result ≡ true → Clear levels b.now e v }
 {
     // The sums of more levels may not fit, and at entry 0 a climb would meet one entry twice.
@@ -72,36 +71,35 @@ fn is_clear(b: &[u64], levels: usize, e: usize, v: Entry) -> bool
         return false;
     }
     let mut at = e;
-    let mut sum = v;
+    let mut sum = v.entry;
     for _ in 0..levels {
-        let read = load(b, beside(at));
-        if !read.within() {
+        let Ok(read) = load(b, beside(at)).checked() else {
             return false;
-        }
+        };
         sum = joined_at(at, sum, read);
         at /= 2;
     }
     sum.within()
 }
 
-// Writes v and what follows from it above, from the bottom up: both halves of the next entry stand then.
-fn write_up(b: &mut [u64], levels: usize, e: usize, v: Entry)
-    requires { (e / 2 * place_words + place_words ≤ length b.old) × (in_limits v ≡ true) × Clear levels b.old e v }
-    ensures { b.new ≡ written_up levels b.old e v }
+// Writes v and what follows from it above, from the bottom up, since both halves of the next entry stand then: where all is clear, what a climb does.
+fn write_up(b: &mut [u64], levels: usize, e: usize, v: CheckedEntry)
+    requires { (e / 2 * place_words + place_words ≤ length b.old) × Clear levels b.old e v }
+    ensures { (b.new ≡ written_up levels b.old e v) × (climbed levels b.old e v ≡ good b.new) }
 {
     let mut at = e;
-    let mut sum = v;
+    let mut sum = v.entry;
     for _ in 0..levels {
         store(b, at, sum);
         at /= 2;
-        sum = load(b, at * 2).join(load(b, at * 2 + 1));
+        sum = halves_joined(b, at);
     }
     store(b, at, sum);
 }
 
-// As `climb`, which says what is wrong where a word is not within its limits: one pass reads and checks, a second writes.
-pub fn quick_climb(b: &mut [u64], levels: usize, e: usize, v: Entry) -> Result<(), Rule>
-    requires { (e / 2 * place_words + place_words ≤ length b.old) × (in_limits v ≡ true) }
+// As `climb`, which is slower but says what is wrong where a word is not within its limits: one pass reads and checks, a second writes.
+pub fn quick_climb(b: &mut [u64], levels: usize, e: usize, v: CheckedEntry) -> Result<(), Rule>
+    requires { e / 2 * place_words + place_words ≤ length b.old }
     ensures value { result ≡ put_of (climbed levels b.old e v) }
     ensures b_after { b.new ≡ or_else (climbed levels b.old e v) b.old }
 {

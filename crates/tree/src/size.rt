@@ -1,43 +1,56 @@
 // The levels of a board for a count of objects, and its places.
-ghost use Rattle.std.specs.Prelude.{◌≡◌, ◌*◌, ◌^◌, ◌≤◌, ◌<◌};
+ghost use Rattle.std.specs.Prelude.{◌≡◌, ◌^◌, ◌≤◌};
 ghost use Rattle.rules.specs.Limits.{max_levels, max_objects};
-ghost use Rattle.tree.specs.Size.{levels_of, cap_of};
+ghost use Rattle.tree.specs.Size.{levels_of};
 
-// The largest power of two that is not above a number.
-#[derive(Clone, Copy)]
-pub struct Width {
-    pub level: u32,
-    pub places: usize,
-}
+use std::marker::Model;
 
-pub fn largest_width(n: usize) -> Width
-    requires { 0 < n }
-    ensures { (result.places ≡ 2 ^ result.level) × (result.places ≤ n) × (n < 2 * result.places) × (result.level < 64) }
-{
-    let level = 63 - u64::leading_zeros(n as u64);
-    Width {
-        level,
-        places: 1usize << level,
-    }
-}
-
+// The size of a board: contracts see its levels. With l of them it has 2 ^ l places.
 #[derive(Clone, Copy)]
 pub struct Size {
-    pub levels: usize,
-    pub cap: usize,
+    levels: usize,
+    cap: usize,
 }
 
-// The levels of a board and its places, C.
-pub fn size_of(count: usize) -> Size
-    requires { count ≤ max_objects }
-    ensures { (result.levels ≡ levels_of count) × (result.cap ≡ cap_of count) × (result.cap ≤ max_objects) × (count ≤ result.cap) × (result.levels ≤ max_levels) }
-{
-    if count <= 1 {
-        return Size { levels: 0, cap: 1 };
+impl Model for Size {
+    ghost use Rattle.std.specs.Prelude.{ℕ, ◌≡◌, ◌≤◌, ◌^◌};
+    ghost use Rattle.rules.specs.Limits.{max_levels};
+
+    ghost Value = { ℕ };
+
+    ghost view = { λ s. s.levels };
+
+    ghost invariant = { λ s. (s.levels ≤ max_levels) × (s.cap ≡ 2 ^ s.levels) };
+
+    ghost inverse = { λ l. record { levels = l; cap = 2 ^ l } };
+}
+
+impl Size {
+    // The least with a place for each of so many objects.
+    pub fn new(count: usize) -> Self
+        requires { count ≤ max_objects }
+        ensures { (result ≡ levels_of count) × (count ≤ 2 ^ result) }
+    {
+        if count <= 1 {
+            return Size { levels: 0, cap: 1 };
+        }
+        let levels = (count - 1).ilog2() as usize + 1;
+        Size {
+            levels,
+            cap: 1 << levels,
+        }
     }
-    let half = largest_width(count - 1);
-    Size {
-        levels: half.level as usize + 1,
-        cap: half.places * 2,
+
+    pub fn levels(self) -> usize
+        ensures { (result ≡ self) × (result ≤ max_levels) }
+    {
+        self.levels
+    }
+
+    // The places, C.
+    pub fn cap(self) -> usize
+        ensures { (result ≡ 2 ^ self) × (self ≤ max_levels) × (result ≤ max_objects) }
+    {
+        self.cap
     }
 }

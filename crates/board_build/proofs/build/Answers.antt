@@ -12,12 +12,12 @@ returns-in_err-size c =
 
 pub lay-requires : goal.lay-requires
 lay-requires c =
-    build_lays c.args.file.now c.args.board.now c.args.starts.now c.in_ok-map.ensures _ (so c.in_ok-size.was c.room_for.ensures)
+    build_lays c.args.file.now c.args.board.now c.args.starts.now c.in_ok-map.ensures _ _ c.cap-cap.ensures.0 (so c.in_ok-size.was c.room_for.ensures)
 
 pub fill-requires : goal.fill-requires
 fill-requires c =
-    build_fills c.args.file.now c.args.board.now c.args.starts.now c.in_ok-map.ensures _ (so c.in_ok-size.was c.room_for.ensures) _ _ c.lay.ensures
+    build_fills c.args.file.now c.args.board.now c.args.starts.now c.in_ok-map.ensures _ _ c.cap-cap.ensures.0 (so c.in_ok-size.was c.room_for.ensures) _ _ c.lay.ensures
 
 pub returns : goal.returns
 returns c =
-    build_done c.args.file.now c.args.board.now c.args.starts.now c.in_ok-map.ensures _ (so c.in_ok-size.was c.room_for.ensures) _ _ c.lay.ensures _ c.fill.ensures
+    build_done c.args.file.now c.args.board.now c.args.starts.now c.in_ok-map.ensures _ _ c.cap-cap.ensures.0 (so c.in_ok-size.was c.room_for.ensures) _ _ c.lay.ensures _ c.fill.ensures

@@ -1,11 +1,7 @@
 use native.Mathlib.Omega.{arith}
 use Rattle.map_file.proofs.Steps.{rest_is}
-use Rattle.map_reader.proofs.Attributed.{complete}
-use Rattle.board_build.proofs.LayingRight.{laying_start, same_words, same_numbers, laying_inside, laying_room, laying_ahead, laying_object, laying_end}
+use Rattle.board_build.proofs.LayingRight.{laying_start, laying_inside, laying_room, laying_ahead, laying_object, laying_end}
 use Rattle.board_build.proofs.lay.Goals as goal
-
-pub objects_from-at-requires : goal.objects_from-at-requires
-objects_from-at-requires c = (complete c.requires.map).1
 
 pub loop-place-init : goal.loop-place-init
 loop-place-init c = laying_start c.requires _ c.objects_from-at.ensures
@@ -18,22 +14,16 @@ slice_bounds-r-count c = let i = laying_inside c.loop-place.invariant c.loop-pla
 
 pub lay_object-at-requires : goal.lay_object-at-requires
 lay_object-at-requires c =
-    laying_room c.loop-place.invariant c.loop-place-test.true (rest_is c.args.file.now c.loop-place.at) c.word_at.ensures.0
+    laying_room c.loop-place.invariant c.loop-place-test.true (rest_is c.args.file.now c.loop-place.at)
 
 pub overflow_add-at : goal.overflow_add-at
 overflow_add-at c =
-    let i = laying_ahead c.loop-place.invariant c.loop-place-test.true (rest_is c.args.file.now c.loop-place.at) c.word_at.ensures.0 c.lay_object-at.ensures in
+    let i = laying_ahead c.loop-place.invariant c.loop-place-test.true (rest_is c.args.file.now c.loop-place.at) c.lay_object-at.ensures in
     omega (arith, i)
 
 pub loop-place-preserved : goal.loop-place-preserved
 loop-place-preserved c =
-    laying_object c.loop-place.invariant c.loop-place-test.true (rest_is c.args.file.now c.loop-place.at) c.word_at.ensures.0 c.lay_object-at.ensures
-
-pub shape_of-board : goal.shape_of-board
-shape_of-board c = same_words c.loop-place.invariant
-
-pub shape_of-starts : goal.shape_of-starts
-shape_of-starts c = same_numbers c.loop-place.invariant
+    laying_object c.loop-place.invariant c.loop-place-test.true (rest_is c.args.file.now c.loop-place.at) c.lay_object-at.ensures
 
 pub returns : goal.returns
 returns c = laying_end c.loop-place.invariant c.loop-place-test.false

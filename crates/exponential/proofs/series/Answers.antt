@@ -24,7 +24,7 @@ loop-j-init c = refl
 
 pub loop-j-preserved : goal.loop-j-preserved
 unfolding of_bits of_int
-loop-j-preserved c = simp c.float.ensures (turn c.args.y c.loop-j.j c.loop-j.h (omega arith) ∙ c.loop-j.invariant)
+loop-j-preserved c = turn c.args.y c.loop-j.j c.loop-j.h (omega arith) ∙ c.loop-j.invariant
 
 pub returns : goal.returns
 returns c = sym (ended c.args.y c.loop-j.j c.loop-j.h (omega arith)) ∙ c.loop-j.invariant

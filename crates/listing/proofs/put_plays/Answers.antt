@@ -10,36 +10,34 @@ use Rattle.listing.proofs.put_plays.Goals as goal
 
 pub returns-then-map-s : goal.returns-then-map-s
 returns-then-map-s c =
-    let e = c.if-map-s.true in
-    let r = writing_done (writing_start c.requires.good_file c.args.space.now c.args.from c.requires.from_in_bounds) (omega (arith, e)) in record { value = r.0; space_after = r.1 }
+    let e = c.if-map-s.true in writing_done (writing_start c.requires.good_file c.args.page.now c.requires.in_bounds) (omega (arith, e))
 
 pub overflow_sub-s : goal.overflow_sub-s
 overflow_sub-s c = end_inside c.requires.good_file
 
 pub loop-index-init : goal.loop-index-init
 loop-index-init c =
-    let here : c.args.map.end ≡ c.args.map.end + 0 = omega arith in
-    subst (λ (at : ℕ). Writing c.args.s.now c.args.map c.args.space.now c.args.from at 0 c.args.space.now c.args.from) here
-    (writing_start c.requires.good_file c.args.space.now c.args.from c.requires.from_in_bounds)
+    let here : c.args.file.now.map.end ≡ c.args.file.now.map.end + 0 = omega arith in
+    subst (λ (at : ℕ). Writing c.args.file.now.bytes.now c.args.file.now.map c.args.page.now at 0 c.args.page.now) here
+    (writing_start c.requires.good_file c.args.page.now c.requires.in_bounds)
 
 pub returns-in_default : goal.returns-in_default
 returns-in_default c =
-    let inside : c.args.map.end + c.loop-index.index * 44 < length c.args.s.now = omega arith in
+    let inside : c.args.file.now.map.end + c.loop-index.index * 44 < length c.args.file.now.bytes.now = omega arith in
     writing_cut c.loop-index.invariant inside c.requires.good_file _ (so c.in_default.is c.play_at.ensures)
 
 pub attributes_from-a-requires : goal.attributes_from-a-requires
-attributes_from-a-requires c =
-    (record { p = c.requires.good_file.p; is = c.requires.good_file.map }, mark_there c.marks_of-marks.ensures c.in-Ok.play _ _ c.mark_before-i.ensures.0)
+attributes_from-a-requires c = mark_there c.marks-marks.ensures c.in-Ok.play _ _ c.mark_before-i.ensures.0
 
 pub loop-index-preserved : goal.loop-index-preserved
 loop-index-preserved c =
-    let inside : c.args.map.end + c.loop-index.index * 44 < length c.args.s.now = omega arith in
-    let next : c.args.map.end + c.loop-index.index * 44 + 44 ≡ c.args.map.end + (c.loop-index.index + 1) * 44 = omega arith in
-    let estimates = from_mark c.loop-index.invariant c.marks_of-marks.ensures c.in-Ok.play _ _ c.mark_before-i.ensures.0 _ c.attributes_from-a.ensures _ c.calculate-estimates.ensures in
-    subst (λ (at : ℕ). Writing c.args.s.now c.args.map c.args.space.now c.args.from at (c.loop-index.index + 1) c.put_play_line-to.new.space c.put_play_line-to.result) next
-    (writing_line c.loop-index.invariant inside _ (so c.in-Ok.is c.play_at.ensures) c.requires.good_file _ estimates _ _ (c.put_play_line-to.ensures.value, c.put_play_line-to.ensures.space_after))
+    let inside : c.args.file.now.map.end + c.loop-index.index * 44 < length c.args.file.now.bytes.now = omega arith in
+    let next : c.args.file.now.map.end + c.loop-index.index * 44 + 44 ≡ c.args.file.now.map.end + (c.loop-index.index + 1) * 44 = omega arith in
+    let estimates = from_mark c.loop-index.invariant c.marks-marks.ensures c.in-Ok.play _ _ c.mark_before-i.ensures.0 _ c.attributes_from-a.ensures _ c.calculate-estimates.ensures in
+    subst (λ (at : ℕ). Writing c.args.file.now.bytes.now c.args.file.now.map c.args.page.now at (c.loop-index.index + 1) c.put_play_line.new.page) next
+    (writing_line c.loop-index.invariant inside _ (so c.in-Ok.is c.play_at.ensures) c.requires.good_file _ estimates _ c.put_play_line.ensures)
 
 pub returns : goal.returns
 returns c =
-    let all : length c.args.s.now ≤ c.args.map.end + c.loop-index.index * 44 = omega arith in
-    let r = writing_done c.loop-index.invariant all in record { value = r.0; space_after = r.1 }
+    let all : length c.args.file.now.bytes.now ≤ c.args.file.now.map.end + c.loop-index.index * 44 = omega arith in
+    writing_done c.loop-index.invariant all

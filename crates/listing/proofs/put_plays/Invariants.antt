@@ -4,4 +4,4 @@ use Rattle.listing.proofs.Writing.{Writing}
 use Rattle.listing.proofs.put_plays.Given as goal
 
 abbrev pub invariant-loop-index : goal.invariant-loop-index
-invariant-loop-index l = Writing l.s l.map l.initial.space l.from (l.map.end + l.index * 44) l.index l.space l.to
+invariant-loop-index l = Writing l.file.bytes.now l.file.map l.initial.page (l.file.map.end + l.index * 44) l.index l.page

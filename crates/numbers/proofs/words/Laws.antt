@@ -70,12 +70,6 @@ unfolding bytes_of
 bytes_of-length zero v = refl
 bytes_of-length (suc n) v = ap suc (bytes_of-length n (v / 256))
 
-pub bytes_of_byte : (n v i : ℕ) → get_or (bytes_of n v) i 0 < 256
-unfolding bytes_of
-bytes_of_byte zero v i = omega arith
-bytes_of_byte (suc n) v zero = omega arith
-bytes_of_byte (suc n) v (suc i) = bytes_of_byte n (v / 256) i
-
 -- a number that n bytes hold comes back
 pub word_at_bytes : (n v : ℕ) (rest : List ℕ) → v < 256 ^ n → word_at (bytes_of n v ++ rest) 0 n ≡ v
 unfolding word_at bytes_of
@@ -105,11 +99,6 @@ float_field f n width x rest h =
 -- every element is a byte
 abbrev pub Bytes : List ℕ → Type 0
 Bytes s = (i : ℕ) → get_or s i 0 < 256
-
-pub bytes_append : (s t : List ℕ) → Bytes s → Bytes t → Bytes (s ++ t)
-bytes_append [] t h k i = k i
-bytes_append (b ∷ s) t h k zero = h 0
-bytes_append (b ∷ s) t h k (suc i) = bytes_append s t (λ (j : ℕ). h (suc j)) k i
 
 pub word_at_lt : (s : List ℕ) (at n : ℕ) → Bytes s → word_at s at n < 256 ^ n
 unfolding word_at

@@ -1,7 +1,7 @@
 -- Each return is a step of the definition; the object's own entry is within the limits.
 use Rattle.std.proofs.Common.{rules}
 use mathlib.Core.Path.{◌≡◌, sym, ap, ◌∙◌, subst}
-use Prim.Native.Nat.{◌≤◌}
+use Prim.Native.Nat.{ℕ, ◌^◌, ◌≤◌}
 use native.Mathlib.Omega.{arith}
 use Rattle.rules.specs.Limits.{max_nested}
 use Rattle.rules.specs.Refusals.{good, at_0}
@@ -10,25 +10,12 @@ use Rattle.rules.proofs.Laws.{so}
 use Rattle.simulator.specs.Limits.{nested_count}
 use Rattle.simulator.proofs.Few.{kind_few}
 use Rattle.entries.specs.Entry.{in_limits}
-use Rattle.tree.specs.Size.{cap_of}
 use Rattle.tree.proofs.Levels.{levels_hold}
 use Rattle.board.specs.Edit.{edit_of}
 use Rattle.board.proofs.Steps.{steps}
-use Rattle.board.proofs.Rooms.{told_refused, told_is}
+use Rattle.board.proofs.Rooms.{told_is}
 use Rattle.board.proofs.Edits as edits
 use Rattle.board.proofs.edit.edit.Goals as goal
-
-pub returns-in_err-size : goal.returns-in_err-size
-unfolding edit_of
-returns-in_err-size c =
-    let room = told_refused c.args.board.now c.args.starts.now c.args.count _ (so c.in_err-size.was c.room_for.ensures) in
-    search (rules, steps)
-
-pub returns-then-count-place : goal.returns-then-count-place
-unfolding edit_of
-returns-then-count-place c =
-    let room = told_is c.args.board.now c.args.starts.now c.args.count _ (so c.in_ok-size.was c.room_for.ensures) in
-    search (rules, steps)
 
 pub returns-in_err-object : goal.returns-in_err-object
 unfolding edit_of
@@ -42,19 +29,19 @@ own-requires c =
     let found = edits.is_alone c.args.bytes.now _ (so c.in_ok-object.was c.read_alone.ensures) in
     subst (λ (h : HitObject). nested_count h.kind ≤ max_nested) (sym found.same) (kind_few found.found.kind found.within.kind)
 
+pub invariant_of-entry : goal.invariant_of-entry
+invariant_of-entry c =
+    let found = edits.is_alone c.args.bytes.now _ (so c.in_ok-object.was c.read_alone.ensures) in
+    ap in_limits c.own.ensures ∙ edits.own_within c.args.bytes.now _ found
+
 pub put_at-requires : goal.put_at-requires
 put_at-requires c =
     let room = told_is c.args.board.now c.args.starts.now c.args.count _ (so c.in_ok-size.was c.room_for.ensures) in
-    let found = edits.is_alone c.args.bytes.now _ (so c.in_ok-object.was c.read_alone.ensures) in
-    let cap : c.in_ok-size.size.cap ≡ cap_of c.args.count = room.1.cap in
+    let cap = ap (λ (l : ℕ). 2 ^ l) room.1.levels in
     let places = levels_hold c.args.count room.1.few in
     let words = room.1.words in
-    let numbers = room.1.numbers in (
-      omega (arith, cap, places, c.if-count-place.false),
-      omega (arith, cap, words),
-      omega (arith, numbers, c.if-count-place.false),
-      ap in_limits c.own.ensures ∙ edits.own_within c.args.bytes.now _ found,
-    )
+    let numbers = room.1.numbers in
+    (omega (arith, cap, places, c.if-count-place.false), omega (arith, cap, words), omega (arith, numbers, c.if-count-place.false))
 
 pub returns-in_err-put_at : goal.returns-in_err-put_at
 returns-in_err-put_at c =

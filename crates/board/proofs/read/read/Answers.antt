@@ -29,19 +29,17 @@ returns-then-has_bad_mods-clause-value c =
     let room = told_is c.args.board.now c.args.starts.now c.args.count _ (so c.in_ok-size.was c.room_for.ensures) in
     search (rules, steps)
 
+pub invariant_of-map : goal.invariant_of-map
+invariant_of-map c = record {
+  in_range = settings_pass c.args.settings c.args.breaks.now (so c.has_bad_arguments.ensures c.if-has_bad_arguments.false);
+  few = c.if-breaks-gt-MAX_BREAK_TIMES.false;
+}
+
 pub read_in-requires : goal.read_in-requires
-read_in-requires c =
-    let room = told_is c.args.board.now c.args.starts.now c.args.count _ (so c.in_ok-size.was c.room_for.ensures) in
-    (room.1, c.if-breaks-gt-MAX_BREAK_TIMES.false, settings_pass c.args.settings c.args.breaks.now (so c.has_bad_arguments.ensures c.if-has_bad_arguments.false))
+read_in-requires c = (told_is c.args.board.now c.args.starts.now c.args.count _ (so c.in_ok-size.was c.room_for.ensures)).1
 
 pub returns-in_err-read_in-clause-value : goal.returns-in_err-read_in-clause-value
 unfolding read_of
 returns-in_err-read_in-clause-value c =
-    let room = told_is c.args.board.now c.args.starts.now c.args.count _ (so c.in_ok-size.was c.room_for.ensures) in
-    search (rules, steps)
-
-pub returns-clause-value : goal.returns-clause-value
-unfolding read_of
-returns-clause-value c =
     let room = told_is c.args.board.now c.args.starts.now c.args.count _ (so c.in_ok-size.was c.room_for.ensures) in
     search (rules, steps)

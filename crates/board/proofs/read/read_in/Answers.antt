@@ -6,5 +6,4 @@ use Rattle.board.proofs.read.read_in.Goals as goal
 
 pub attributes_from-requires : goal.attributes_from-requires
 attributes_from-requires c =
-    let k = found_in c.args.board.now c.args.starts.now c.args.count _ _ (sym (so c.in_ok-found.was c.find.ensures)) in
-    (c.requires.1, c.requires.2, k.0, k.1)
+    found_in c.args.board.now c.args.starts.now c.args.count _ _ (sym (so c.in_ok-found.was c.find.ensures))

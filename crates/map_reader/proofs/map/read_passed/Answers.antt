@@ -1,10 +1,9 @@
 -- Header and breaks, then the objects: what was read is the map of the file.
-use mathlib.Core.Path.{◌≡◌, sym, ap, ◌∙◌, subst}
-use Prim.Native.Nat.{ℕ}
+use mathlib.Core.Path.{◌≡◌, sym, ◌∙◌, subst}
 use native.Mathlib.Omega.{arith}
 use borrow.Author.Rules.{rules}
 use Rattle.rules.specs.Refusals.{refused, refusal_at}
-use Rattle.map_reader.specs.Map.{objects_of, MapReadOf}
+use Rattle.map_reader.specs.Map.{MapReadOf}
 use Rattle.map_reader.proofs.Breaks.{head_reads, breaks_inside}
 use Rattle.map_reader.proofs.Mapping.{read_is, read_refused}
 use Rattle.map_reader.proofs.map.read_passed.Goals as goal
@@ -20,5 +19,5 @@ read_objects-requires c = let inside = breaks_inside (head_reads c.args.s.now _ 
 pub returns : goal.returns
 returns c =
     let s = c.args.s.now in
-    let e = c.read_objects.ensures ∙ ap (λ (n : ℕ). objects_of s c.in_ok-settings.settings n c.args.passed) c.count_breaks.ensures.0 in
-    subst (MapReadOf s c.args.passed) (sym e) (read_is s c.in_ok-settings.settings c.args.passed (sym c.in_ok-settings.was ∙ c.read_head.ensures))
+    subst (MapReadOf s c.args.passed) (sym c.read_objects.ensures)
+    (read_is s c.in_ok-settings.settings _ c.args.passed (sym c.in_ok-settings.was ∙ c.read_head.ensures) c.count_breaks.ensures)

@@ -12,4 +12,4 @@ returns-then-drain_len-eq0 c = at_zero c.args.object_count c.args.drain_len c.ra
 pub returns-else-drain_len-eq0 : goal.returns-else-drain_len-eq0
 unfolding of_bits of_int
 returns-else-drain_len-eq0 c =
-    c.clamp.ensures ∙ simp (c.float.ensures, c.nearest_i64_to_f64.ensures, kept c.args.drain_len c.ranges.drain_len.sfits) (at_other c.args.object_count c.args.drain_len c.if-drain_len-eq0.false)
+    c.clamp.ensures ∙ simp (c.nearest_u64_to_f64.ensures, c.nearest_i64_to_f64.ensures, kept c.args.drain_len c.ranges.drain_len.sfits) (at_other c.args.object_count c.args.drain_len c.if-drain_len-eq0.false)

@@ -9,5 +9,5 @@ use Rattle.ruleset.proofs.score_multiplier.break_len_in.Goals as goal
 pub returns : goal.returns
 returns c =
     let e = kept c.len_before.result (omega arith) in
-    let places = YieldsList-from_range 0 c.args.count c.args.count c.map.ensures.source (omega arith) in
-    (e ∙ length_at c.args.last_start c.len_before.ensures.0 (sym (records_given c.args.s.now 0 c.args.count)) (YieldsList-from_map _ (λ i. break_at c.args.s.now (14 + 18 * i)) places c.map.ensures.closure (λ x r q k. search rules)), rw e c.len_before.ensures.1)
+    let places = YieldsList-from_range 0 c.args.breaks.count c.args.breaks.count c.map.ensures.source (omega arith) in
+    (e ∙ length_at c.args.last_start c.len_before.ensures.0 (sym (records_given c.args.s.now 0 c.args.breaks.count)) (YieldsList-from_map _ (λ i. break_at c.args.s.now (14 + 18 * i)) places c.map.ensures.closure (λ x r q k. search rules)), rw e c.len_before.ensures.1)

@@ -14,7 +14,7 @@ returns-in_err-play c =
     let k = c.loop-at.invariant c.requires in
     let n = c.in_err-play.field-0.0.rule in
     let told : c.play_at.result ≡ refused n = grind arith in
-    let up : c.from_residual.result ≡ refused (refusal_at n c.loop-at.at) = grind arith in
+    let up : c.from_residual.result ≡ refused (refusal_at n c.loop-at.at-counter) = grind arith in
     up ∙ sym (ap (checked_of _) (playing_cut k.is c.loop-at-test.true n (so told c.play_at.ensures)))
 
 pub check_any-requires : goal.check_any-requires
@@ -29,7 +29,7 @@ returns-in_err-score c =
     let n = c.in_err-score.field-0.0.rule in
     let play : c.play_at.result ≡ good c.in_ok-play.play = grind arith in
     let told : c.score_behind.result ≡ refused n = grind arith in
-    let up : c.from_residual-in_err-score.result ≡ refused (refusal_at n c.loop-at.at) = grind arith in
+    let up : c.from_residual-in_err-score.result ≡ refused (refusal_at n c.loop-at.at-counter) = grind arith in
     up ∙ sym (ap (checked_of _) (on_refused k c.loop-at-test.true _ (so play c.play_at.ensures) n (so told (c.score_behind.ensures c.requires))))
 
 pub loop-at-preserved : goal.loop-at-preserved
@@ -37,6 +37,15 @@ loop-at-preserved c =
     let play : c.play_at.result ≡ good c.in_ok-play.play = grind arith in
     let score : c.score_behind.result ≡ good c.in_ok-score.score = grind arith in
     λ k. on_more (c.loop-at.invariant k) c.loop-at-test.true _ (so play c.play_at.ensures) _ (so score (c.score_behind.ensures k)) _ c.after-wanted.ensures
+
+-- behind the last play that there can be
+pub returns-in_ok-score : goal.returns-in_ok-score
+returns-in_ok-score c =
+    let play : c.play_at.result ≡ good c.in_ok-play.play = grind arith in
+    let score : c.score_behind.result ≡ good c.in_ok-score.score = grind arith in
+    let k = c.requires in
+    let on = on_more (c.loop-at.invariant k) c.loop-at-test.true _ (so play c.play_at.ensures) _ (so score (c.score_behind.ensures k)) _ c.after-wanted.ensures in
+    playing_end on.is (omega arith)
 
 pub returns : goal.returns
 returns c = let k = c.loop-at.invariant c.requires in playing_end k.is c.loop-at-test.false

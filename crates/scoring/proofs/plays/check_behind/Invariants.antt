@@ -6,7 +6,7 @@ use Rattle.scoring.proofs.Playing.{PlayingOn}
 use Rattle.scoring.proofs.plays.check_behind.Given as goal
 
 abbrev pub invariant-loop-at : goal.invariant-loop-at
-invariant-loop-at l = (k : Attributed l.s l.passed l.map l.a) → PlayingOn l.s l.map l.at l.wanted l.index k.map.file.map
+invariant-loop-at l = (k : Attributed l.file.bytes.now l.passed l.file.map l.a) → PlayingOn l.file.bytes.now l.file.map l.at-counter l.wanted l.index k.map.file.map
 
 abbrev pub decreases-loop-at : goal.decreases-loop-at
-decreases-loop-at l = length l.s - l.at
+decreases-loop-at l = length l.s - l.at-counter

@@ -7,10 +7,7 @@ use Rattle.scoring.proofs.plays.score_behind.Goals as goal
 pub returns-then-passes_as_many : goal.returns-then-passes_as_many
 returns-then-passes_as_many c =
     let as_many = sym c.passes_as_many.ensures ∙ c.if-passes_as_many.true in
-    λ k. c.score_on.ensures ∙ same_passed c.args.s.now c.args.passed c.args.map c.args.a k c.args.play as_many
-
-pub score_anew-requires : goal.score_anew-requires
-score_anew-requires c = record { p = c.args.passed; is = c.requires.map }
+    λ k. c.score_on.ensures ∙ same_passed c.args.file.now.bytes.now c.args.passed c.args.file.now.map c.args.a k c.args.play as_many
 
 pub returns : goal.returns
 returns c = λ k. c.score_anew.ensures ∙ anew_is k.map c.args.play

@@ -6,7 +6,7 @@ use Rattle.map_reader.specs.Map.{MapReadOf}
 use Rattle.map_reader.proofs.Attributed.{complete, attributes_are}
 use Rattle.play_reader.proofs.Playing.{map_out}
 use Rattle.scoring.specs.Scores.{listed_play_of}
-use Rattle.scoring.proofs.Answers.{start_refused, check_refused, check_good, listed_good}
+use Rattle.scoring.proofs.Answers.{start_refused, check_good, listed_good}
 use borrow.Author.Rules.{rules}
 use Rattle.scoring.proofs.score.score_play_at.Goals as goal
 
@@ -23,13 +23,8 @@ check_behind-requires c =
     let k = map_out (subst (MapReadOf c.args.s.now 18446744073709551615) c.in_ok-map.was c.read_passed.ensures) in
     record { map = k; attributes = c.attributes_of-a.ensures ∙ attributes_are k }
 
-pub returns-in_err-wanted : goal.returns-in_err-wanted
-returns-in_err-wanted c =
-    let up : c.from_residual-in_err-wanted.result ≡ refused c.in_err-wanted.field-0.0 = search rules in
-    up ∙ sym (ap (listed_play_of c.args.index) (check_refused c.args.s.now c.args.index (so c.in_err-wanted.was c.check_behind.ensures)))
-
 pub returns : goal.returns
 returns c =
     let k = map_out (subst (MapReadOf c.args.s.now 18446744073709551615) c.in_ok-map.was c.read_passed.ensures) in
     let all = check_good k (so c.in_ok-wanted.was c.check_behind.ensures) in
-    ap good c.listed.ensures ∙ listed_good all
+    ap good c.into.ensures ∙ listed_good all

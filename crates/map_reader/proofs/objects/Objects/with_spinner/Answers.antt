@@ -9,13 +9,13 @@ use Rattle.map_reader.proofs.Stepping.{spinner_read, step_read, walk_legacy}
 use Rattle.map_reader.proofs.objects.Objects.with_spinner.Goals as goal
 
 pub returns-in_default-kind : goal.returns-in_default-kind
-returns-in_default-kind c = let k = spinner_read c.args.r.now c.in-Ok-Object-default.field-0-0-is (sym c.in-Ok-Object-default.is ∙ c.read_spinner.ensures) in absurd (search (rules, k.kind))
+returns-in_default-kind g c = let k = spinner_read c.args.r.now c.in-Ok-Object-default.field-0-0-is (sym c.in-Ok-Object-default.is ∙ c.read_spinner.ensures) in absurd (search (rules, k.kind))
 
 pub overflow_add-result : goal.overflow_add-result
-overflow_add-result c = let k = spinner_read c.args.r.now c.in-Ok-Object-default.field-0-0-is (sym c.in-Ok-Object-default.is ∙ c.read_spinner.ensures) in omega (arith, k.inside)
+overflow_add-result g c = let k = spinner_read c.args.r.now c.in-Ok-Object-default.field-0-0-is (sym c.in-Ok-Object-default.is ∙ c.read_spinner.ensures) in omega (arith, k.inside)
 
 pub returns : goal.returns
-returns c =
-    let w = c.args.walks in
+returns g c =
+    let w = g.S.SpinnerStep.walks in
     let x = c.args.self in
     grind (arith, step_read w x (spinner_of c.args.r.now), walk_legacy x.score (hit_as w (spinner c.in-Spinner.spinner.duration)))

@@ -1,6 +1,0 @@
--- Each turn sets the next mark, from the one before it.
-use Rattle.marks.proofs.Marked.{Marking}
-use Rattle.marks.proofs.marks_of.Given as goal
-
-abbrev pub invariant-loop-i : goal.invariant-loop-i
-invariant-loop-i l = Marking l.s l.fn.map l.stride l.state l.states l.i

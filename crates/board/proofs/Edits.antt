@@ -54,6 +54,7 @@ pub record IsAlone (r : List ℕ) (h : HitObject) : Type 0 where
 
 -- what the code was told
 pub is_alone : (r : List ℕ) (h : HitObject) → good h ≡ alone_of (object_in r) → IsAlone r h
+unfolding ◌>>=◌
 is_alone r h e = go (object_in r) refl e
   where
     go : (x : Checked Object) → object_in r ≡ x → good h ≡ alone_of x → IsAlone r h
@@ -61,6 +62,7 @@ is_alone r h e = go (object_in r) refl e
     go (good o) q e = record { found = o; read = q; same = cc; within = alone_within r o q }
 
 pub not_alone : (r : List ℕ) (n : Rule) → refused n ≡ alone_of (object_in r) → object_in r ≡ refused n
+unfolding ◌>>=◌
 not_alone r n e = go (object_in r) e
   where
     go : (x : Checked Object) → refused n ≡ alone_of x → x ≡ refused n

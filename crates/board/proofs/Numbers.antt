@@ -16,7 +16,7 @@ use Rattle.play_state.specs.declared.Play.{Play}
 use Rattle.records.specs.declared.beatmap.Settings.{Settings}
 use Rattle.simulator.specs.declared.attributes.ScoreAttributes.{ScoreAttributes}
 use Rattle.play_score.specs.PlayRules.{play_score}
-use Rattle.entries.specs.Entry.{none}
+use Rattle.entries.specs.Entry.{none, checked}
 use Rattle.entries.specs.Words.{entry_at}
 use Rattle.entries.specs.declared.entry.Entry.{Entry}
 use Rattle.tree.specs.Size.{levels_of}
@@ -77,11 +77,15 @@ limited_numbered : (e : Entry) → Numbered (limited e)
 unfolding limited
 limited_numbered e = numbered_then _ _ (numbered_when BOARD _ refl) (numbered_then _ _ (numbered_when BONUS _ refl) value)
 
+checked_numbered : (e : Entry) → Numbered (checked e)
+unfolding checked
+checked_numbered e = numbered_then _ _ (numbered_when BOARD _ refl) value
+
 pub climbed_numbered : (n : ℕ) (b : List ℕ) (e : ℕ) (v : Entry) → Numbered (climbed n b e v)
 unfolding climbed above_of
 climbed_numbered zero b e v = value
 climbed_numbered (suc n) b e v =
-    numbered_bind _ _ (numbered_then _ _ (numbered_when BOARD _ refl) (limited_numbered _)) (λ u. numbered_bind _ _ (climbed_numbered n b (e / 2) u) (λ w. value))
+    numbered_bind _ _ (numbered_bind _ _ (checked_numbered _) (λ r. limited_numbered _)) (λ u. numbered_bind _ _ (climbed_numbered n b (e / 2) u) (λ w. value))
 
 -- ---- a read
 score_numbered : (p : Play) (a : ScoreAttributes) → Numbered (play_score p a)
@@ -95,7 +99,7 @@ walked_numbered (suc n) b x p a = go (leb (2 ^ n) p) (λ u. walked_numbered n b 
   where
     go : (t : Bool) → ((u : Entry) → Numbered (walked n b ((x + 1) * 2) (p - 2 ^ n) u)) → Numbered (walked n b (x * 2) p a)
         → Numbered (cond t (after_of a (entry_at b x) >>= (λ u. walked n b ((x + 1) * 2) (p - 2 ^ n) u)) (walked n b (x * 2) p a))
-    go true taken left = numbered_bind _ _ (numbered_then _ _ (numbered_when BOARD _ refl) (limited_numbered _)) taken
+    go true taken left = numbered_bind _ _ (numbered_bind _ _ (checked_numbered _) (λ r. limited_numbered _)) taken
     go false taken left = left
 
 starts_numbered : (ts : List Float) (n p : ℕ) → Numbered (starts_in ts n p)

@@ -1,37 +1,29 @@
 -- The steps of a read: each refusal in its turn, then the play on what the search found.
 use Prim.Native.Nat.{ℕ, ◌%◌, ◌≤◌, min, ◌*◌}
 use mathlib.Core.Path.{◌≡◌, refl, ap, ◌∙◌}
-use mathlib.Core.Bool.{Bool, true, false, not, ◌&&◌, ◌||◌}
+use mathlib.Core.Bool.{Bool, true, false, ◌||◌}
 use mathlib.Core.List.{List}
-use borrow.Author.Tests.{le-ltb}
-use lib.Dec.{eqb}
-use lib.Ieee.{Float, binary32, of_bits, le}
+use borrow.Author.Tests.{le-ltb, not-false}
+use lib.Dec.{eqb, ltb}
+use lib.Ieee.{Float}
 use lib.ListN.{length}
 use Rattle.rules.specs.Limits.{max_breaks}
-use Rattle.rules.specs.Refusals.{good, refused, COUNT, PLAY_FIELD, RANGE}
+use Rattle.rules.specs.Refusals.{Checked, good, refused, ◌>>=◌, ◌>>◌, refuse◌when◌, COUNT, PLAY_FIELD, RANGE}
 use Rattle.records.specs.declared.beatmap.Settings.{Settings}
 use Rattle.play_state.specs.declared.Play.{Play}
-use Rattle.rules.proofs.Laws.{never}
 use Rattle.entries.proofs.Sound.{neither}
-use Rattle.ruleset.specs.Stars.{SettingIn, SettingsIn}
+use Rattle.ruleset.specs.Stars.{SettingsIn}
 use Rattle.simulator.specs.Attributes.{score_attributes_of}
 use Rattle.simulator.specs.View.{times}
 use Rattle.simulator.specs.Walk.{State}
 use Rattle.simulator.specs.declared.legacy_score.NestedScorePerObject.{NestedScorePerObject}
 use Rattle.play_score.specs.PlayRules.{mods_bad, play_score}
-use Rattle.board.specs.Place.{room_for}
+use Rattle.play_score.specs.declared.PlayScore.{PlayScore}
+use Rattle.board.specs.Place.{room_for, room_of}
 use Rattle.board.specs.Search.{found_of}
 use Rattle.board.specs.Read.{setting_bad, settings_bad, times_bad, arguments_bad, attributes_from, score_from, read_of}
 use Rattle.board.specs.declared.search.Found.{Found}
 use Rattle.board.proofs.Binds.{bind_good, then_good, when_true, when_false}
-
-setting_in : (x : Float) → setting_bad x ≡ false → SettingIn x
-setting_in x e = both (le (of_bits binary32 0) x) (le x (of_bits binary32 0x41400000)) e
-  where
-    both : (a b : Bool) → not (a && b) ≡ false → (a ≡ true) × (b ≡ true)
-    both true true e = (refl, refl)
-    both true false e = never (cc)
-    both false b e = never (cc)
 
 -- arguments that pass are settings in their range
 pub settings_pass : (s : Settings) (br : List Float) → arguments_bad s br ≡ false → SettingsIn s
@@ -40,9 +32,26 @@ settings_pass s br e =
     let a = (neither (settings_bad s || times_bad br) (eqb (length br % 2) 1) e).0 in
     let b = neither (setting_bad s.hp || setting_bad s.od) (setting_bad s.cs) (neither (settings_bad s) (times_bad br) a).0 in
     let c = neither (setting_bad s.hp) (setting_bad s.od) b.0 in
-    record { hp = setting_in s.hp c.0; od = setting_in s.od c.1; cs = setting_in s.cs b.1 }
+    record { hp = not-false _ c.0; od = not-false _ c.1; cs = not-false _ b.1 }
 
 module _ (b : List ℕ) (ts : List Float) (n : ℕ) (s : Settings) (br : List Float) (p : Play) where
+  -- behind the room
+  abbrev behind : Checked PlayScore
+  behind = do
+    refuse RANGE when arguments_bad s br
+    refuse PLAY_FIELD when mods_bad p.mods
+    score_from b ts n s br p
+
+  -- the steps with the size that the code is told
+  pub by_size : read_of b ts n s br p ≡ ((refuse COUNT when ltb (2 * max_breaks) (length br)) >> (room_of n (room_for b ts n) >>= (λ _. behind)))
+  unfolding read_of ◌>>=◌ ◌>>◌ refuse◌when◌
+  by_size = go (ltb (2 * max_breaks) (length br)) (room_for b ts n)
+    where
+      go : (t : Bool) (x : Checked (Unit {0})) → ((refuse COUNT when t) >> (x >> behind)) ≡ ((refuse COUNT when t) >> (room_of n x >>= (λ _. behind)))
+      go true x = refl
+      go false (refused k) = refl
+      go false (good u) = refl
+
   pub found : (f : Found) → found_of b ts n (min p.passed_objects n) ≡ good f → score_from b ts n s br p ≡ play_score p (attributes_from f s br n)
   unfolding score_from
   found f e = bind_good (found_of b ts n (min p.passed_objects n)) _ f e

@@ -39,6 +39,7 @@ module _ (b : List ℕ) (ts : List Float) (n : ℕ) where
 
   -- what the code was told
   pub told_refused : (k : Rule) → refused k ≡ room_of n (room_for b ts n) → room_for b ts n ≡ refused k
+  unfolding ◌>>◌
   told_refused k e = go (room_for b ts n) e
     where
       go : (x : Checked (Unit {0})) → refused k ≡ room_of n x → x ≡ refused k
@@ -46,6 +47,7 @@ module _ (b : List ℕ) (ts : List Float) (n : ℕ) where
       go (good u) e = never (cc)
 
   pub told_is : (size : ℕ) → good size ≡ room_of n (room_for b ts n) → (room_for b ts n ≡ good tt) × Holds size n b ts
+  unfolding ◌>>◌
   told_is size e = go (room_for b ts n) refl e
     where
       go : (x : Checked (Unit {0})) → room_for b ts n ≡ x → good size ≡ room_of n x → (room_for b ts n ≡ good tt) × Holds size n b ts

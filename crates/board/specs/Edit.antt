@@ -32,8 +32,9 @@ object_in r = do
 
 -- what the code keeps of it
 abbrev pub alone_of : Checked Object → Checked HitObject
-alone_of (refused n) = refused n
-alone_of (good o) = good (object_view o)
+alone_of x = do
+  o ← x
+  good (object_view o)
 
 -- "12: an edited place is not below the object count"
 unfoldable pub edit_of : List ℕ → List Float → ℕ → ℕ → List ℕ → Checked (List ℕ × List Float)

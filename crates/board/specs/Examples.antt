@@ -16,7 +16,7 @@ use Rattle.play_state.specs.declared.Play.{Play}
 use Rattle.simulator.specs.Nested.{spinner_score_of}
 use Rattle.simulator.specs.Attributes.{difficulty_attributes_of, score_attributes_of}
 use Rattle.play_score.specs.PlayRules.{mods_bad, hits_exceed, exceeds, play_score}
-use Rattle.entries.specs.Entry.{total, entry_of, joined, in_limits}
+use Rattle.entries.specs.Entry.{total, entry_of, joined, in_limits, checked}
 use Rattle.entries.specs.Words.{entry_at}
 use Rattle.entries.specs.Scores.{unsound}
 use Rattle.tree.specs.Size.{levels_from, levels_of}
@@ -162,7 +162,7 @@ edits =
     ∷ []
 
 edit_numbers : map (λ (r : Edit). number (edit_of r.0 r.1 r.2 r.3 r.4)) edits ≡ map (λ (r : Edit). r.5) edits
-unfolding edits edit_of room_for levels_of levels_from object_in object_of circle_of slider_of spinner_of nested_of put_place climbed above_of limited in_limits joined entry_at entry_of total repeats ticks legacy_of standardised_of spinner_score_of turned total_half_spins required_half_spins word_at bytes_of ◌>>=◌ ◌>>◌ refuse◌when◌ of_bits of_int round to_unsigned mul div le lt eq neg
+unfolding edits edit_of room_for levels_of levels_from object_in object_of circle_of slider_of spinner_of nested_of put_place climbed above_of checked limited in_limits joined entry_at entry_of total repeats ticks legacy_of standardised_of spinner_score_of turned total_half_spins required_half_spins word_at bytes_of ◌>>=◌ ◌>>◌ refuse◌when◌ of_bits of_int round to_unsigned mul div le lt eq neg
 edit_numbers = refl
 
 -- ---- reads: "then their arguments (.. a read its settings and breaks, starts and ends in turn, an odd count 4, then 8), then 13 and 7 entry by
@@ -284,5 +284,5 @@ reads =
     ∷ []
 
 read_numbers : map (λ (r : Read). number (read_of r.0 r.1 r.2 r.3 r.4 r.5)) reads ≡ map (λ (r : Read). r.6) reads
-unfolding reads read_of room_for levels_of levels_from arguments_bad settings_bad times_bad mods_bad flags_bad score_from found_of walked after_of limited in_limits joined entry_at starts_in unsound attributes_from score_attributes_of difficulty_attributes_of play_score exceeds hits_exceed ◌>>=◌ ◌>>◌ refuse◌when◌ of_bits le lt eq neg
+unfolding reads read_of room_for levels_of levels_from arguments_bad settings_bad times_bad mods_bad flags_bad score_from found_of walked after_of checked limited in_limits joined entry_at starts_in unsound attributes_from score_attributes_of difficulty_attributes_of play_score exceeds hits_exceed ◌>>=◌ ◌>>◌ refuse◌when◌ of_bits le lt eq neg
 read_numbers = refl

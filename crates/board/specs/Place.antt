@@ -1,8 +1,8 @@
 -- Document 01, "What a caller gets" and "The board": room for a map's board and start table, and an entry and a start put at a place of them.
-use Rattle.std.specs.Prelude.{ℕ, ◌+◌, ◌*◌, ◌^◌, ◌≤◌, ◌≡◌, List, ltb, Float, length, set}
+use Rattle.std.specs.Prelude.{ℕ, ◌+◌, ◌*◌, ◌^◌, ◌≤◌, ◌≡◌, List, ltb, Float, length, set, Result}
 use Rattle.rules.specs.Limits.{max_objects}
 use Rattle.entries.specs.Entry.{place_words}
-use Rattle.rules.specs.Refusals.{Checked, good, refused, ◌>>=◌, ◌>>◌, refuse◌when◌, COUNT, ROOM, OrRefusal, refusal_at}
+use Rattle.rules.specs.Refusals.{Checked, good, refused, ◌>>=◌, ◌>>◌, refuse◌when◌, COUNT, ROOM, OrRefusal, at_0}
 use Rattle.entries.specs.declared.entry.Entry.{Entry}
 use Rattle.tree.specs.Size.{levels_of, cap_of}
 use Rattle.tree.specs.Put.{climbed}
@@ -14,9 +14,9 @@ room_for b ts n = do
   refuse ROOM when ltb (length b) (place_words * cap_of n)
   refuse ROOM when ltb (length ts) n
 
+-- the levels for n objects, where there is room
 abbrev pub room_of : ℕ → Checked (Unit {0}) → Checked ℕ
-room_of n (refused k) = refused k
-room_of n (good _) = good (levels_of n)
+room_of n x = x >> good (levels_of n)
 
 -- the levels for n objects, with room for them in both slices
 pub record Holds (size n : ℕ) (b : List ℕ) (ts : List Float) : Type 0 where
@@ -32,11 +32,10 @@ put_place levels place v start b ts = do
   good (written, set ts place start)
 
 -- ---- the answers and what both slices hold at last: "a refused call .. leaves all lent memory untouched"
-abbrev pub put_left : Checked (List ℕ × List Float) → List ℕ → List Float → Checked (Unit {0}) × List ℕ × List Float
+abbrev pub put_left : {E : Type 0} → Result (List ℕ × List Float) E → List ℕ → List Float → Result (Unit {0}) E × List ℕ × List Float
 put_left (refused n) b ts = (refused n, b, ts)
 put_left (good w) b ts = (good tt, w.0, w.1)
 
 -- the offset "is 0 .. for all refusals of calls that take no file; in an edit the lent object record starts at 0"
 abbrev pub written_left : Checked (List ℕ × List Float) → List ℕ → List Float → OrRefusal (Unit {0}) × List ℕ × List Float
-written_left (refused n) b ts = (refused (refusal_at n 0), b, ts)
-written_left (good w) b ts = (good tt, w.0, w.1)
+written_left x b ts = put_left (at_0 x) b ts

@@ -3,30 +3,23 @@ ghost use Rattle.std.specs.Prelude.{◌≡◌};
 ghost use Rattle.board.specs.Place.{written_left};
 ghost use Rattle.board.specs.Edit.{object_in, alone_of, edit_of};
 
-use crate::place::{put_at, room_for};
+use crate::place::{BoardMut, room_for};
 use entries::checked::CheckedEntry;
 use entries::entry::Entry;
-use numbers::words::word_at;
 use records::hit_object::HitObject;
-use records::object_record::read_object;
-use records::record::Record;
+use records::mark::Mark;
+use records::object_record::read_kind;
 use rules::refusal::{Refusal, Rule};
 
 // One object's record and nothing behind it.
-#[tactic(auto, using(crate::proofs::Steps::steps), unfolding(crate::specs::Edit::object_in))]
+#[tactic(auto, using(crate::proofs::Steps::steps, crate::proofs::Alones::by_mark))]
 pub fn read_alone(r: &[u8]) -> Result<HitObject, Rule>
     ensures { result ≡ alone_of (object_in r.now) }
 {
     if r.len() == 0 {
         return Err(Rule::Mark);
     }
-    if r.len() < 2 {
-        return Err(Rule::Cut);
-    }
-    let (record, size) = read_object(r, word_at(r, 0, 2))?;
-    let Record::Object(object) = record else {
-        return Err(Rule::Mark);
-    };
+    let (object, size) = read_kind(r, Mark::read(r)?)?;
     if size < r.len() {
         return Err(Rule::Mark);
     }
@@ -53,6 +46,12 @@ pub fn edit(
     let entry = CheckedEntry {
         entry: Entry::own(object),
     };
-    put_at(board, starts, size, place, entry, start)?;
+    let mut lent = BoardMut {
+        words: board,
+        starts,
+        size,
+        count,
+    };
+    lent.put_at(place, entry, start)?;
     Ok(())
 }

@@ -1,23 +1,20 @@
 // The score of a play on the first objects of a map, from its board and start table.
-ghost use Rattle.std.specs.Prelude.{◌≡◌, true, false, ◌≤◌, ◌<◌, ◌^◌, ◌*◌, length};
-ghost use Rattle.std.specs.Int.Signed.{mag};
+ghost use Rattle.std.specs.Prelude.{◌≡◌, true, false, ◌≤◌, ◌*◌, length};
 ghost use Rattle.rules.specs.Limits.{max_breaks};
 ghost use Rattle.entries.specs.Scores.{unsound};
 ghost use Rattle.ruleset.specs.Stars.{SettingsIn};
 ghost use Rattle.rules.specs.Refusals.{at_0};
-ghost use Rattle.board.specs.Place.{Holds};
 ghost use Rattle.board.specs.Read.{settings_bad, times_bad, arguments_bad, drain_from, attributes_from, score_from, read_of};
 
-use crate::place::room_for;
-use crate::search::{Found, Starts, find};
+use crate::place::{Board, room_for};
+use crate::search::{Found, Starts};
 use play_score::{PlayScore, has_bad_mods, score_on};
 use play_state::Play;
 use records::beatmap::{BreakPeriod, Settings};
 use records::fields::{is_setting, is_time};
 use rules::refusal::{Refusal, Rule};
-use ruleset::score_multiplier::{break_len, drain_len, score_multiplier};
-use simulator::attributes::{ScoreAttributes, score_attributes};
-use tree::size::Size;
+use ruleset::score_multiplier::{DrainLen, break_len, drain_len};
+use simulator::attributes::{ScoreAttributes, score_attributes_with};
 
 // A start and an end for each break.
 const MAX_BREAK_TIMES: usize = 2 * BreakPeriod::MAX_COUNT as usize;
@@ -53,11 +50,12 @@ struct GivenMap<'a> {
 }
 
 #[tactic(auto, using(crate::proofs::Steps::steps), unfolding(crate::specs::Read::drain_from))]
-fn drain_from(starts: Starts, map: GivenMap, count: usize) -> i64
-    ensures { (result ≡ drain_from starts map.entry.breaks.now count) × (mag result < 2 ^ 53) }
+fn drain_from(starts: Starts, map: GivenMap, count: usize) -> DrainLen
+    ensures { result.seconds ≡ drain_from starts map.entry.breaks.now count }
 {
+    // As in `map_reader::attributes::drain_in`: a function for both would take a closure for the breaks, with its contract, to share this test.
     if count == 0 {
-        return 0;
+        return DrainLen { seconds: 0 };
     }
     let last = starts.last;
     drain_len(starts.first, last, break_len(map.breaks, last))
@@ -72,30 +70,21 @@ fn attributes_from(found: Found, map: GivenMap, count: usize) -> ScoreAttributes
     let starts = found.starts;
     let drain = drain_from(starts, map, count);
     let entry = sum.entry;
-    let multiplier = score_multiplier(map.settings, entry.object_count, drain);
-    score_attributes(sum.state(), entry.into(), multiplier)
+    score_attributes_with(map.settings, drain, sum.state(), entry.into())
 }
 
 // The search, then the play on what it found.
 #[tactic(auto, using(crate::proofs::Steps::steps), unfolding(crate::specs::Read::score_from))]
-fn read_in(
-    board: &[u64],
-    starts: &[f64],
-    size: Size,
-    count: usize,
-    map: GivenMap,
-    play: Play,
-) -> Result<PlayScore, Rule>
-    requires { Holds size count board.now starts.now }
-    ensures { result ≡ score_from board.now starts.now count map.entry.settings map.entry.breaks.now play }
+fn read_in(board: &Board, map: GivenMap, play: Play) -> Result<PlayScore, Rule>
+    ensures { result ≡ score_from board.now.words.now board.now.starts.now board.now.count map.entry.settings map.entry.breaks.now play }
 {
-    let p = count.min(usize::from(play.passed_objects));
-    let found = find(board, starts, size, count, p)?;
-    score_on(play, attributes_from(found, map, count))
+    let p = board.count.min(usize::from(play.passed_objects));
+    let found = board.find(p)?;
+    score_on(play, attributes_from(found, map, board.count))
 }
 
 // A play on the first objects of a board for `count` objects.
-#[tactic(auto, using(crate::proofs::Steps::steps), unfolding(crate::specs::Read::read_of))]
+#[tactic(auto, using(crate::proofs::Steps::steps, crate::proofs::Readings::by_size))]
 pub fn read(
     board: &[u64],
     starts: &[f64],
@@ -119,5 +108,11 @@ pub fn read(
         return Err(Rule::PlayField.at(0));
     }
     let map = GivenMap { settings, breaks };
-    Ok(read_in(board, starts, size, count, map, play)?)
+    let lent = Board {
+        words: board,
+        starts,
+        size,
+        count,
+    };
+    Ok(read_in(&lent, map, play)?)
 }

@@ -12,11 +12,11 @@ use Rattle.rules.specs.Limits.{max_objects}
 use Rattle.encoding.specs.Limits.{MapWithin}
 use Rattle.records.specs.Objects.{Object}
 use Rattle.map_file.specs.File.{Map as MapData, file_of}
-use Rattle.rules.specs.Refusals.{Checked, good, refused, ◌>>◌, refusal_at}
+use Rattle.rules.specs.Refusals.{Checked, good, refused, ◌>>◌, OrRefusal, refusal_at}
 use Rattle.simulator.specs.declared.attributes.ScoreAttributes.{ScoreAttributes}
 use Rattle.map_reader.specs.Map.{MapIs}
 use Rattle.map_reader.specs.declared.map.Map.{Map}
-use Rattle.scoring.specs.Scores.{Outcome, values, Scores, scores_of}
+use Rattle.scoring.specs.Scores.{Scores, scores_of}
 use Rattle.scoring.specs.View.{PlaysOf, are}
 use Rattle.scoring.proofs.Answers.{NoNumber, no_number, values_within}
 use Rattle.entries.specs.Entry.{entry_of, in_limits, place_words}
@@ -48,7 +48,7 @@ module _ (os : List Object) (b : List ℕ) (fits : in_limits (entry_of os) ≡ t
 -- that gets no number, and its map
 record FileGood (s : List ℕ) (m : Map) : Type 0 where
   scores : Scores
-  is : scores_of (file_of s) ≡ values scores
+  is : scores_of (file_of s) ≡ good scores
   map : MapIs s every_object m
   same : scores.map ≡ map.file.map
 
@@ -72,7 +72,7 @@ module _ (s : List ℕ) (b : List ℕ) (ts : List Float) where
     -- the answer is that on the map's objects
     on_objects : {x : Checked (List ℕ × List Float)} → build_of os b ts ≡ x → written_left x b ts ≡ built (scores_of (file_of s)) b ts
     on_objects q =
-        sym (ap (λ (x : Checked (List ℕ × List Float)). written_left x b ts) q) ∙ sym (ap (λ (x : Outcome Scores). built x b ts) k.is)
+        sym (ap (λ (x : Checked (List ℕ × List Float)). written_left x b ts) q) ∙ sym (ap (λ (x : OrRefusal Scores). built x b ts) k.is)
 
     -- no room
     pub no_room : (n : Rule) → refused n ≡ room_of m.objects (room_for b ts m.objects)

@@ -1,2 +1,3 @@
 pub mod LayingRight
 pub mod BuiltRight
+pub mod ByMark

@@ -7,60 +7,35 @@ ghost use Rattle.records.specs.Records.{record_read, object_of};
 ghost use Rattle.map_file.specs.File.{file_of};
 ghost use Rattle.scoring.specs.Scores.{scores_of};
 ghost use Rattle.board_build.specs.Build.{built};
-ghost use Rattle.board_build.specs.Laying.{LaysRecord, record_laid, LaysRead, read_laid, Lays, objects_laid};
+ghost use Rattle.board_build.specs.Laying.{LaysRead, read_laid, Lays, objects_laid};
 
 use board::place::room_for;
 use entries::entry::Entry;
 use entries::words::store;
 use map_reader::map::{Map, objects_from};
-use numbers::words::word_at;
 use records::mark::Mark;
-use records::object_record;
-use records::record::{Read, Record};
+use records::object_record::read_kind;
 use rules::refusal::Refusal;
 use scoring::plays::check_plays;
 use tree::build::fill;
 
-// An object's own entry and its start at its place; other records have neither.
-fn lay_record(board: &mut [u64], starts: &mut [f64], cap: usize, place: usize, item: Record)
-    requires { LaysRecord cap place item board.old starts.old }
-    ensures { (board.new, starts.new) ≡ record_laid cap place item board.old starts.old }
-{
-    match item {
-        Record::Object(object) => {
-            store(board, cap + place, Entry::own(object));
-            starts[place] = object.start_time;
-        }
-        Record::Header(_) | Record::Break(_) | Record::Play(_) => {}
-    }
-}
-
-// Lays an object as it was read, and gives its size.
-fn lay_read(found: Read, board: &mut [u64], starts: &mut [f64], cap: usize, place: usize) -> usize
-    requires { LaysRead cap place found board.old starts.old }
-    ensures { (result, board.new, starts.new) ≡ read_laid cap place found board.old starts.old }
-{
-    match found {
-        Err(_) => 0,
-        Ok((item, size)) => {
-            lay_record(board, starts, cap, place, item);
-            size
-        }
-    }
-}
-
-// Lays the object that r starts with, and gives its size. The file is accepted: order, counts and bonus are checked. Each kind has its reading and
-// its laying in one piece.
-#[tactic(auto, unfolding(records::specs::Records::object_of))]
+// Lays the object that r starts with, its own entry and its start, and gives its size. The file is accepted: order, counts and bonus are checked.
+// The slices and C are lent apart: of a type that holds them, each contract here would say besides that it keeps the same slices, size and count.
+#[tactic(auto, using(crate::proofs::ByMark::marked, crate::proofs::ByMark::unmarked))]
 fn lay_object(r: &[u8], board: &mut [u64], starts: &mut [f64], cap: usize, place: usize) -> usize
     requires { LaysRead cap place (record_read (object_of r.now (word_at r.now 0 2))) board.old starts.old }
     ensures { (result, board.new, starts.new) ≡ read_laid cap place (record_read (object_of r.now (word_at r.now 0 2))) board.old starts.old }
 {
-    match Mark::try_from(word_at(r, 0, 2)) {
-        Ok(Mark::Circle) => lay_read(object_record::read_circle(r), board, starts, cap, place),
-        Ok(Mark::Slider) => lay_read(object_record::read_slider(r), board, starts, cap, place),
-        Ok(Mark::Spinner) => lay_read(object_record::read_spinner(r), board, starts, cap, place),
-        Ok(Mark::Header | Mark::Break | Mark::Play) | Err(_) => 0,
+    let Ok(mark) = Mark::read(r) else {
+        return 0;
+    };
+    match read_kind(r, mark) {
+        Ok((object, size)) => {
+            store(board, cap + place, Entry::own(object));
+            starts[place] = object.start_time;
+            size
+        }
+        Err(_) => 0,
     }
 }
 

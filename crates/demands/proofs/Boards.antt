@@ -1,6 +1,6 @@
 -- What follows from the calls' definitions: a build of an accepted map is done, one edit leads between neighbouring maps, an edit touches little, and
 -- a board that a map has gets no 13.
-use mathlib.Core.Bool.{Bool, true, false, cond}
+use mathlib.Core.Bool.{Bool, true, false, not, cond}
 use mathlib.Core.List.{List, [], ◌∷◌, ◌++◌, append-nil}
 use mathlib.Core.Logic.{◌≢◌}
 use mathlib.Core.Path.{◌≡◌, refl, sym, ap, ap₂, ◌∙◌, subst}
@@ -30,7 +30,7 @@ use Rattle.play_score.specs.declared.PlayScore.{PlayScore}
 use Rattle.slider_breaks.specs.Given.{with_breaks}
 use Rattle.slider_breaks.specs.declared.calculator.SliderFactors.{SliderFactors}
 use Rattle.slider_breaks.proofs.Laws.{other_number}
-use Rattle.scoring.specs.Scores.{Outcome, Scores, scores_of}
+use Rattle.scoring.specs.Scores.{Scores, scores_of}
 use Rattle.scoring.proofs.Rules.{Ruled, fine, rule, ruled_bind, ruled_when, ruled_object, ruled_given, two, three}
 use Rattle.entries.specs.Entry.{entry_of, place_words}
 use Rattle.tree.specs.Size.{levels_of, cap_of}
@@ -44,9 +44,9 @@ use Rattle.board.specs.Read.{read_of}
 use Rattle.board.proofs.Binds.{bound, passed}
 use Rattle.board.proofs.Rooms as rooms
 use Rattle.board_build.specs.Build.{build_of, built}
-use Rattle.demands.specs.Calls.{is_accepted, changed, times_of, lent_for, edit, read, read_breaks, edits, reads, reads_breaks, answer, lent_after, put_if_accepted, record_answer, AcceptedMap}
+use Rattle.demands.specs.Calls.{is_accepted, changed, times_of, lent_for, edit, read, read_breaks, edits, reads, reads_breaks, answer, lent_after, put_if_accepted, AcceptedMap}
 use Rattle.demands.proofs.Maps.{within_accepted, within_scored, accepted_is_within}
-use Rattle.demands.proofs.EditRight.{edit_right}
+use Rattle.demands.proofs.EditRight.{edit_told, edit_right}
 use Rattle.demands.proofs.ReadRight.{read_right}
 
 -- ---- an object's own record is an edit's
@@ -83,7 +83,7 @@ pub record Leads (m : Map) (place : ℕ) (o : Object) (words : List ℕ) (number
 
 pub one_edit_leads : (m : Map) (place : ℕ) (o : Object) (words : List ℕ) (numbers : List Float) → AcceptedMap m → place < length m.objects
     → AcceptedMap (changed m place o) → Leads m place o words numbers
-unfolding answer lent_after
+unfolding answer lent_after ◌>>=◌ ◌>>◌ refuse◌when◌
 one_edit_leads m place o words numbers a h a' = record { done = ap (λ (z : Z). edits z.0) right; there = ap (λ (z : Z). record { board = z.1; starts = z.2 }) right }
   where
     w' : MapWithin (changed m place o)
@@ -99,9 +99,9 @@ one_edit_leads m place o words numbers a h a' = record { done = ap (λ (z : Z). 
         ≡ left (good tt) (changed m place o)
     right =
         edit_right m (accepted_is_within m a) words numbers place (object_bytes o)
-        ∙ ap₂ (λ (t : Bool) (x : Checked Object). left (cond t (record_answer m place x) (refused (refusal_at PLACE 0))) (cond t (put_if_accepted m place x) m))
+        ∙ ap₂ (λ (t : Bool) (x : Checked Object). left (edit_told m place t x) (cond t (put_if_accepted m place x) m))
         (lt-ltb place (length m.objects) h) (own_record o (object_at_lem m.objects place o h w'.objects))
-        ∙ ap (λ (a : Bool). left (cond a (good tt) (refused (refusal_at BONUS 0))) (cond a (changed m place o) m)) (within_accepted (changed m place o) w')
+        ∙ ap (λ (a : Bool). left (at_0 (refuse BONUS when not a)) (cond a (changed m place o) m)) (within_accepted (changed m place o) w')
 
 -- ---- "an edit changes only the entries that cover its place, at most 14, and its start": on any lent content
 pub record Touches (n place : ℕ) (b : List ℕ) (ts : List Float) (written : List ℕ × List Float) : Type 0 where
@@ -159,15 +159,15 @@ told r = number_of r.rule
 
 pub never_13_edit : (m : Map) (words : List ℕ) (numbers : List Float) (place : ℕ) (r : List ℕ) → AcceptedMap m
     → answer (edit (length m.objects) place r) (lent_for m words numbers) ≢ edits (refused (refusal_at BOARD 0))
-unfolding answer
+unfolding answer ◌>>=◌ ◌>>◌ refuse◌when◌
 never_13_edit m words numbers place r a e =
     go (ltb place (length m.objects)) (object_in r) (record_ruled r) (sym (ap (λ (z : OrRefusal (Unit {0}) × List ℕ × List Float). edits z.0) (edit_right m (accepted_is_within m a) words numbers place r)) ∙ e)
   where
-    accepts : (t : Bool) → edits (cond t (good tt) (refused (refusal_at BONUS 0))) ≢ edits (refused (refusal_at BOARD 0))
+    accepts : (t : Bool) → edits (at_0 (refuse BONUS when not t)) ≢ edits (refused (refusal_at BOARD 0))
     accepts true h = never (cc)
     accepts false h = let k : refusal_at BONUS 0 ≡ refusal_at BOARD 0 = cc in absurd (omega (arith, ap told k))
 
-    go : (t : Bool) (x : Checked Object) → Ruled x → edits (cond t (record_answer m place x) (refused (refusal_at PLACE 0))) ≢ edits (refused (refusal_at BOARD 0))
+    go : (t : Bool) (x : Checked Object) → Ruled x → edits (edit_told m place t x) ≢ edits (refused (refusal_at BOARD 0))
     go false x k h = let s : refusal_at PLACE 0 ≡ refusal_at BOARD 0 = cc in absurd (omega (arith, ap told s))
     go true (refused n) (rule is) h = let s : refusal_at n 0 ≡ refusal_at BOARD 0 = cc in absurd (omega (arith, ap told s, is.1))
     go true (good o) k h = accepts (is_accepted (changed m place o)) h
@@ -204,6 +204,6 @@ unfolding build_of ◌>>◌
 build_is_done m a b ts words numbers =
     let n = length m.objects in
     let w = accepted_is_within m a in
-    ap (λ (x : Outcome Scores). built x b ts) (within_scored m w)
+    ap (λ (x : OrRefusal Scores). built x b ts) (within_scored m w)
     ∙ ap (λ (x : Checked (Unit {0})). written_left (x >> good (board_of m.objects ++ drop (place_words * cap_of n) b, starts_of m.objects ++ drop n ts)) b ts)
     (rooms.roomy b ts n w.few_objects words numbers)

@@ -9,7 +9,7 @@ use borrow.Author.Tests.{ltb-false}
 use lib.Dec.{ltb}
 use lib.ListN.{length, take, length-take}
 use Rattle.rules.specs.Limits.{max_objects}
-use Rattle.rules.specs.Refusals.{Checked, good, refused, ◌>>◌, refuse◌when◌, PLAY_FIELD, PLAY_EXCEEDS, at_0}
+use Rattle.rules.specs.Refusals.{Checked, good, refused, ◌>>◌, refuse◌when◌, PLAY_FIELD, PLAY_EXCEEDS, at_0, OrRefusal, ◌>>=◌}
 use Rattle.rules.proofs.Laws.{never}
 use Rattle.play_state.specs.declared.Play.{Play}
 use Rattle.records.specs.Objects.{Object, Kind, circle, slider, spinner}
@@ -28,11 +28,12 @@ use Rattle.miss_calc.specs.Counts.{total_hits}
 use Rattle.estimates.specs.Effective.{estimates_of}
 use Rattle.play_score.specs.PlayRules.{mods_bad, hits_exceed, exceeds, play_score, given_score}
 use Rattle.play_score.specs.declared.PlayScore.{PlayScore}
+use Rattle.play_score.proofs.Exceeding.{score_of}
 use Rattle.slider_breaks.specs.Given.{BreaksScore, factors_bad, breaks_score, with_breaks}
 use Rattle.slider_breaks.specs.declared.calculator.SliderFactors.{SliderFactors}
 use Rattle.slider_breaks.proofs.Laws.{Values, values_of}
 use Rattle.slider_breaks.proofs.Range.{BreaksInRange, breaks_range}
-use Rattle.scoring.specs.Scores.{Outcome, refusal, values, Scores, scores_of, given_play_of}
+use Rattle.scoring.specs.Scores.{Scores, scores_of, given_play_of}
 use Rattle.scoring.proofs.Answers.{values_within}
 use Rattle.demands.proofs.Exactness.{combo_most}
 use Rattle.demands.proofs.Refusals.{effective_of_counts}
@@ -56,7 +57,7 @@ all_gain n st (o ∷ os) =
 record Fits (p : Play) (a : ScoreAttributes) (s : PlayScore) : Type 0 where
   judged : total_hits p.hitresults ≤ a.object_count
   combo : p.max_combo ≤ a.difficulty.max_combo
-  is : s ≡ record { attributes = a; estimates = estimates_of p a.difficulty }
+  is : s ≡ score_of p a
 
 fits_of : (p : Play) (a : ScoreAttributes) (s : PlayScore) → given_score p a ≡ good s → Fits p a s
 unfolding given_score play_score exceeds ◌>>◌ refuse◌when◌
@@ -64,11 +65,8 @@ fits_of p a s e =
     go (mods_bad p.mods) (ltb a.object_count (total_hits p.hitresults)) (ltb a.difficulty.max_combo p.max_combo)
     (hits_exceed p.hitresults p.origin a.difficulty) refl refl e
   where
-    whole_score : PlayScore
-    whole_score = record { attributes = a; estimates = estimates_of p a.difficulty }
-
     go : (t u v w : Bool) → ltb a.object_count (total_hits p.hitresults) ≡ u → ltb a.difficulty.max_combo p.max_combo ≡ v
-        → ((refuse PLAY_FIELD when t) >> ((refuse PLAY_EXCEEDS when (u || v || w)) >> good whole_score)) ≡ good s → Fits p a s
+        → ((refuse PLAY_FIELD when t) >> ((refuse PLAY_EXCEEDS when (u || v || w)) >> good (score_of p a))) ≡ good s → Fits p a s
     go true u v w q r e = never (cc)
     go false true v w q r e = never (cc)
     go false false true w q r e = never (cc)
@@ -109,12 +107,13 @@ module _ (m : Map) (w : MapWithin m) (p : Play) where
 -- of a play that is given with factors beside a file
 pub breaks_of_a_play : (s : List ℕ) (p : Play) (f : SliderFactors) (b : BreaksScore) → with_breaks p f (given_play_of p (scores_of (file_of s))) ≡ good b
     → BreaksInRange b.slider_breaks p.hitresults.n100
+unfolding ◌>>=◌
 breaks_of_a_play s p f b e = go (scores_of (file_of s)) refl v.score
   where
     v : Values p f (given_play_of p (scores_of (file_of s))) b
     v = values_of p f (given_play_of p (scores_of (file_of s))) b e
 
-    in_range : (sc : Scores) → scores_of (file_of s) ≡ values sc → (x : Checked PlayScore) → given_score p (score_attributes_at sc.map p.passed_objects) ≡ x
+    in_range : (sc : Scores) → scores_of (file_of s) ≡ good sc → (x : Checked PlayScore) → given_score p (score_attributes_at sc.map p.passed_objects) ≡ x
         → at_0 x ≡ good b.score → BreaksInRange b.slider_breaks p.hitresults.n100
     in_range sc q (refused n) h k = never (cc)
     in_range sc q (good t) h k =
@@ -123,6 +122,6 @@ breaks_of_a_play s p f b e = go (scores_of (file_of s)) refl v.score
         (subst (λ (z : PlayScore). BreaksInRange (breaks_score p f z).slider_breaks p.hitresults.n100) same
         (scored_range sc.map (values_within s sc q) p f t v.factors h))
 
-    go : (x : Outcome Scores) → scores_of (file_of s) ≡ x → given_play_of p x ≡ good b.score → BreaksInRange b.slider_breaks p.hitresults.n100
-    go (refusal n at) q k = never (cc)
-    go (values sc) q k = in_range sc q _ refl k
+    go : (x : OrRefusal Scores) → scores_of (file_of s) ≡ x → given_play_of p x ≡ good b.score → BreaksInRange b.slider_breaks p.hitresults.n100
+    go (refused r) q k = never (cc)
+    go (good sc) q k = in_range sc q _ refl k

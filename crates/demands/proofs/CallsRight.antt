@@ -10,7 +10,7 @@ use lib.Dec.{ltb}
 use lib.Ieee.{Float}
 use lib.ListN.{length, drop, set}
 use Rattle.rules.specs.Limits.{max_bonus}
-use Rattle.rules.specs.Refusals.{Checked, good, refused, ◌>>◌, OrRefusal, at_0}
+use Rattle.rules.specs.Refusals.{Checked, good, refused, ◌>>◌, OrRefusal, at_0, ◌>>=◌, at_offset}
 use Rattle.rules.proofs.Laws.{never}
 use Rattle.play_state.specs.declared.Play.{Play}
 use Rattle.records.specs.Objects.{Object, bonus}
@@ -23,7 +23,7 @@ use Rattle.play_score.specs.PlayRules.{given_score}
 use Rattle.play_score.specs.declared.PlayScore.{PlayScore}
 use Rattle.slider_breaks.specs.Given.{with_breaks}
 use Rattle.slider_breaks.specs.declared.calculator.SliderFactors.{SliderFactors}
-use Rattle.scoring.specs.Scores.{Outcome, refusal, values, at_offset, then, Scores, scores_of, given_play_of}
+use Rattle.scoring.specs.Scores.{Scores, scores_of, given_play_of}
 use Rattle.scoring.proofs.Answers.{no_number, values_within}
 use Rattle.scoring.proofs.Behind.{behind-map}
 use Rattle.entries.specs.Entry.{place_words}
@@ -73,7 +73,8 @@ refused_keeps (good z) l h = absurd h
 
 -- ---- a play behind the map in its file is the play on the map
 from_file_lem : (m : Map) (at : ℕ) (x : Checked PlayScore)
-    → from_file (then (at_offset at x) (λ s. values (record { map = m; plays = s ∷ [] }))) ≡ at_0 x
+    → from_file (at_offset at x >>= λ s. good (record { map = m; plays = s ∷ [] })) ≡ at_0 x
+unfolding ◌>>=◌
 from_file_lem m at (refused n) = refl
 from_file_lem m at (good s) = refl
 
@@ -114,12 +115,12 @@ module _ (words : List ℕ) (numbers : List Float) where
 
   read_breaks_answer : (m : Map) → MapWithin m → (p : Play) → PlaySized p → (f : SliderFactors)
       → ReadBreaksAnswer m p f (answer (read_breaks (length m.objects) m.settings (times_of m.breaks) p f) (lent_for m words numbers))
-  unfolding answer
+  unfolding answer ◌>>=◌
   read_breaks_answer m w p v f =
       let scored = ap (λ (x : Checked PlayScore). reads_breaks (with_breaks p f (at_0 x))) (read_right m words numbers p w) in
       record {
         as_in_file = scored ∙ ap (λ (x : OrRefusal PlayScore). reads_breaks (with_breaks p f x)) (sym (in_file m w p v));
-        as_called = scored ∙ ap (λ (x : Outcome Scores). reads_breaks (with_breaks p f (given_play_of p x))) (sym (within_scored m w));
+        as_called = scored ∙ ap (λ (x : OrRefusal Scores). reads_breaks (with_breaks p f (given_play_of p x))) (sym (within_scored m w));
       }
 
   read_breaks_steps : (n : ℕ) (s : Settings) (br : List Float) (p : Play) (f : SliderFactors) (m : Map) → MapWithin m → Steps (read_breaks n s br p f) m
@@ -210,15 +211,15 @@ pub record Begins (s : List ℕ) (b : List ℕ) (ts : List Float) : Type 0 where
 pub begins : (s : List ℕ) (b : List ℕ) (ts : List Float) → (built (scores_of (file_of s)) b ts).0 ≡ good tt → Begins s b ts
 begins s b ts e = go (scores_of (file_of s)) refl e
   where
-    go : (x : Outcome Scores) → scores_of (file_of s) ≡ x → (built x b ts).0 ≡ good tt → Begins s b ts
-    go (refusal n at) q e = never (cc)
-    go (values sc) q e =
+    go : (x : OrRefusal Scores) → scores_of (file_of s) ≡ x → (built x b ts).0 ≡ good tt → Begins s b ts
+    go (refused r) q e = never (cc)
+    go (good sc) q e =
         let k = no_number s sc q in
         let map : sc.map ≡ map_in (file_of s) = k.map ∙ ap map_in (sym k.read) in
         record {
           within = subst MapWithin map (values_within s sc q);
           lent =
-              ap (λ (x : Outcome Scores). record { board = (built x b ts).1; starts = (built x b ts).2 }) q
+              ap (λ (x : OrRefusal Scores). record { board = (built x b ts).1; starts = (built x b ts).2 }) q
               ∙ build_done sc.map b ts e
               ∙ ap (λ (x : Map). lent_for x (drop (place_words * cap_of (length x.objects)) b) (drop (length x.objects) ts)) map;
         }

@@ -35,7 +35,7 @@ use Rattle.estimates.proofs.Range.{FromMissesToJudgements}
 use Rattle.slider_breaks.specs.Given.{BreaksScore, with_breaks}
 use Rattle.slider_breaks.specs.declared.calculator.SliderFactors.{SliderFactors}
 use Rattle.slider_breaks.proofs.Range.{BreaksInRange}
-use Rattle.scoring.specs.Scores.{refusal, values, Scores, scores_of, given_play_of}
+use Rattle.scoring.specs.Scores.{Scores, scores_of, given_play_of}
 use Rattle.scoring.proofs.Answers.{no_number}
 use Rattle.scoring.proofs.Rules.{IsRule, refusal_rule}
 use Rattle.entries.specs.Entry.{place_words}
@@ -67,7 +67,7 @@ every_listing_fits = listing_told
 
 -- "An input that breaks a rule of document 01 gets that rule's number": a refusal's number is that of a rule, 2 to 9 (1 is the program's own).
 -- Which rule it is, `record_of` and `play_score` say check by check.
-pub refused_by_a_rule : (s : List ℕ) (n : Rule) (at : ℕ) → scores_of (file_of s) ≡ refusal n at → IsRule n
+pub refused_by_a_rule : (s : List ℕ) (n : Rule) (at : ℕ) → scores_of (file_of s) ≡ refused (refusal_at n at) → IsRule n
 refused_by_a_rule = refusal_rule
 
 -- on any lent memory a refused edit or read has a number from 2 to 13 but for 10; so none has 0, which a host takes for a good call
@@ -90,19 +90,19 @@ pub never_10 : Never10
 never_10 = ten_is_gone
 
 -- "one that breaks none gets none": a file that gets no number keeps the limits of every rule, and every map within them has a file that gets none
-pub accepted_keeps_the_rules : (s : List ℕ) (sc : Scores) → scores_of (file_of s) ≡ values sc → MapWithin sc.map
+pub accepted_keeps_the_rules : (s : List ℕ) (sc : Scores) → scores_of (file_of s) ≡ good sc → MapWithin sc.map
 accepted_keeps_the_rules s sc e = let k = no_number s sc e in subst MapWithin (sym k.map) (accepted_within s k.file k.read)
 
-pub keeping_the_rules_is_accepted : (m : Map) → MapWithin m → scores_of (file_of (map_file m)) ≡ values (record { map = m; plays = [] })
+pub keeping_the_rules_is_accepted : (m : Map) → MapWithin m → scores_of (file_of (map_file m)) ≡ good (record { map = m; plays = [] })
 keeping_the_rules_is_accepted = within_scored
 
 -- the two together, of whole files: a file gets no number only when, and when, it is the file of a map within the limits with plays within theirs behind
 -- it, none of which exceeds the map; its scores are then those of its plays
-pub no_number_only_when_the_rules_are_kept : (s : List ℕ) → Bytes s → (sc : Scores) → scores_of (file_of s) ≡ values sc → RulesKept s
+pub no_number_only_when_the_rules_are_kept : (s : List ℕ) → Bytes s → (sc : Scores) → scores_of (file_of s) ≡ good sc → RulesKept s
 no_number_only_when_the_rules_are_kept = only_when_kept
 
 pub no_number_when_the_rules_are_kept : (s : List ℕ) (k : RulesKept s)
-    → scores_of (file_of s) ≡ values (record { map = k.map; plays = scored_plays k.map k.plays })
+    → scores_of (file_of s) ≡ good (record { map = k.map; plays = scored_plays k.map k.plays })
 no_number_when_the_rules_are_kept = when_kept
 
 -- ---- Demand 2
@@ -114,7 +114,7 @@ pub record Values (s : List ℕ) (sc : Scores) : Type 0 where
   pub map : sc.map ≡ file.map
   pub plays : sc.plays ≡ scored_plays file.map (bare file.plays)
 
-pub values_are_the_definition's : (s : List ℕ) (sc : Scores) → scores_of (file_of s) ≡ values sc → Values s sc
+pub values_are_the_definition's : (s : List ℕ) (sc : Scores) → scores_of (file_of s) ≡ good sc → Values s sc
 values_are_the_definition's s sc e =
     let k = no_number s sc e in
     record { file = k.file; read = k.read; map = k.map; plays = plays_are_scored k.file.map k.file.plays sc.plays k.plays }

@@ -41,7 +41,7 @@ use Rattle.slider_breaks.specs.Difficulty.{reverse_lerp_of, smoothstep_of, logis
 use Rattle.slider_breaks.specs.SliderBreaks.{adjusted_of, slider_breaks_of, estimated_breaks}
 use Rattle.slider_breaks.specs.Given.{is_factor, factors_bad}
 use Rattle.slider_breaks.specs.declared.calculator.SliderFactors.{SliderFactors}
-use Rattle.entries.specs.Entry.{total, entry_of, joined, in_limits}
+use Rattle.entries.specs.Entry.{total, entry_of, joined, in_limits, checked}
 use Rattle.entries.specs.Words.{entry_at, put_entry, words_from}
 use Rattle.tree.specs.Size.{levels_from, levels_of}
 use Rattle.tree.specs.Limited.{limited}
@@ -149,7 +149,7 @@ unfolding at built-map words file numbers is_accepted map_file header_bytes brea
 done = refl
 
 stands : MayStand list (map_in (file_of file)) first
-unfolding first at built-map words file numbers list spin play_on play broken beyond factors wrong_factors is_accepted map_file header_bytes break_bytes nested_bytes object_bytes each fields_of file_of file_from with_record counts_of bonus record_of body_of object_of header_of break_of circle_of slider_of spinner_of play_of nested_of hitresults_of flags_bad word_at bytes_of ◌>>=◌ ◌>>◌ refuse◌when◌ of_bits le lt eq neg of_int to_bits play_scores build_of room_for levels_from levels_of answer lent_after map_after edit_of object_in put_place climbed above_of limited joined in_limits entry_at put_entry entry_of total covered entry_in board_entry board_of words_from legacy_of standardised_of spinner_score_of total_half_spins required_half_spins add sub mul div to_unsigned is_nan half_spin_points repeats ticks
+unfolding first at built-map words file numbers list spin play_on play broken beyond factors wrong_factors is_accepted map_file header_bytes break_bytes nested_bytes object_bytes each fields_of file_of file_from with_record counts_of bonus record_of body_of object_of header_of break_of circle_of slider_of spinner_of play_of nested_of hitresults_of flags_bad word_at bytes_of ◌>>=◌ ◌>>◌ refuse◌when◌ of_bits le lt eq neg of_int to_bits play_scores build_of room_for levels_from levels_of answer lent_after map_after edit_of object_in put_place climbed above_of checked limited joined in_limits entry_at put_entry entry_of total covered entry_in board_entry board_of words_from legacy_of standardised_of spinner_score_of total_half_spins required_half_spins add sub mul div to_unsigned is_nan half_spin_points repeats ticks
 stands = (inl refl, (inl refl, (inl refl, (inr tt, (tt, (tt, (tt, (tt, (tt, (tt, tt))))))))))
 
 -- ---- what the claim tells

@@ -9,6 +9,7 @@ use borrow.Author.Tests.{ltb-true, ltb-false}
 use lib.Dec.{ltb}
 use lib.ListN.{length, set, length-set}
 use Rattle.rules.specs.Limits.{max_objects, max_bonus}
+use Rattle.rules.specs.Refusals.{good, ◌>>=◌}
 use Rattle.rules.proofs.Laws.{never}
 use Rattle.play_state.specs.declared.Play.{Play}
 use Rattle.records.specs.Objects.{Object, bonus, kind_bonus}
@@ -19,7 +20,7 @@ use Rattle.encoding.specs.Limits.{Each, none, one, ObjectWithin, MapWithin}
 use Rattle.encoding.proofs.FileBytes.{written_snoc}
 use Rattle.encoding.proofs.Accepted.{each_snoc, accepted_within}
 use Rattle.encoding.proofs.RoundTrip.{round_trip, over_bonus_lem, bare}
-use Rattle.scoring.specs.Scores.{values, then, play_scores, scores_of}
+use Rattle.scoring.specs.Scores.{play_scores, scores_of}
 use Rattle.tree.proofs.Changed.{each_set}
 use Rattle.demands.specs.Calls.{gets_none, is_accepted, AcceptedMap, changed}
 
@@ -50,15 +51,15 @@ unfolding bare
 no_plays [] e = refl
 no_plays (p ∷ ps) e = never (cc)
 
-pub within_scored : (m : Map) → MapWithin m → scores_of (file_of (map_file m)) ≡ values (record { map = m; plays = [] })
-unfolding play_scores each
+pub within_scored : (m : Map) → MapWithin m → scores_of (file_of (map_file m)) ≡ good (record { map = m; plays = [] })
+unfolding play_scores each ◌>>=◌
 within_scored m w =
     let k = round_trip m [] w none in
     let file : file_of (map_file m) ≡ accepted k.file = ap file_of (sym (append-nil (map_file m))) ∙ k.read in
     let plays : k.file.plays ≡ [] = no_plays k.file.plays k.plays_back in
     ap scores_of file
-    ∙ ap (λ (l : List (ℕ × Play)). then (play_scores k.file.map l) (λ ss. values (record { map = k.file.map; plays = ss }))) plays
-    ∙ ap (λ (x : Map). values (record { map = x; plays = [] })) k.map_back
+    ∙ ap (λ (l : List (ℕ × Play)). play_scores k.file.map l >>= λ ss. good (record { map = k.file.map; plays = ss })) plays
+    ∙ ap (λ (x : Map). good (record { map = x; plays = [] })) k.map_back
 
 -- ---- one whose bonus is too high is not
 abbrev with_objects : Map → List Object → Map

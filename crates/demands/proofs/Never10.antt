@@ -20,7 +20,7 @@ use Rattle.play_reader.specs.View.{answer_of, simulated_of}
 use Rattle.play_score.specs.declared.PlayScore.{PlayScore}
 use Rattle.slider_breaks.specs.Given.{BreaksScore, with_breaks}
 use Rattle.slider_breaks.specs.declared.calculator.SliderFactors.{SliderFactors}
-use Rattle.scoring.specs.Scores.{refusal, scores_of, map_score_of, given_play_of, listed_play_of}
+use Rattle.scoring.specs.Scores.{scores_of, map_score_of, given_play_of, listed_play_of}
 use Rattle.board.specs.Place.{written_left}
 use Rattle.board.specs.Edit.{edit_of}
 use Rattle.board.specs.Read.{read_of}
@@ -38,7 +38,7 @@ use Rattle.heat.proofs.Heats.{each_play_as_alone}
 -- of each call, on any input and any lent memory: what a host is told, by the definitions of the calls' contracts
 pub record Never10 : Type 0 where
   -- by every call that checks a file with its plays; the listing's line is that of this number
-  pub file : (s : List ℕ) (n : Rule) (at : ℕ) → scores_of (file_of s) ≡ refusal n at → number_of n ≢ 10
+  pub file : (s : List ℕ) (n : Rule) (at : ℕ) → scores_of (file_of s) ≡ refused (refusal_at n at) → number_of n ≢ 10
   pub read_map : (s : List ℕ) → (map_info_of (answer_of (file_of s))).status ≢ 10
   pub simulate : (s : List ℕ) (p : ℕ) (n : Rule) (at : ℕ) → simulated_of (file_of s) p ≡ refused (refusal_at n at) → number_of n ≢ 10
   pub score_map : (s : List ℕ) → (map_answer_of (map_score_of (scores_of (file_of s)))).status ≢ 10

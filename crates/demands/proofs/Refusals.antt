@@ -14,7 +14,7 @@ use Rattle.numbers.specs.Floats.{whole}
 use Rattle.numbers.proofs.Bounds.{plain}
 use Rattle.numbers.proofs.Order.{whole_le, le_of_not_lt}
 use Rattle.numbers.proofs.Intervals.{whole-at_least, of_tests_between, wider, between_below}
-use Rattle.rules.specs.Refusals.{Checked, OrRefusal, good, refused, pick, PLACE, FACTOR, refusal_at, at_0, number_of}
+use Rattle.rules.specs.Refusals.{Checked, OrRefusal, good, refused, pick, PLACE, FACTOR, refusal_at, at_0, number_of, ◌>>=◌}
 use Rattle.rules.specs.declared.refusal.Rule.{Rule}
 use Rattle.play_state.specs.declared.Play.{Play}
 use Rattle.records.specs.declared.beatmap.Settings.{Settings}
@@ -29,7 +29,7 @@ use Rattle.play_score.specs.PlayRules.{given_score}
 use Rattle.play_score.specs.declared.PlayScore.{PlayScore}
 use Rattle.slider_breaks.specs.Given.{BreaksScore, factors_bad, breaks_score, with_breaks}
 use Rattle.slider_breaks.specs.declared.calculator.SliderFactors.{SliderFactors}
-use Rattle.scoring.specs.Scores.{Outcome, refusal, values, Scores, scores_of, given_play_of}
+use Rattle.scoring.specs.Scores.{Scores, scores_of, given_play_of}
 use Rattle.scoring.proofs.Rules.{IsRule, Ruled, fine, rule, refusal_rule, ruled_given}
 use Rattle.entries.specs.Entry.{entry_of}
 use Rattle.tree.specs.Size.{levels_of, cap_of}
@@ -73,11 +73,12 @@ pub read_breaks_numbered : (b : List ℕ) (ts : List Float) (n : ℕ) (s : Setti
 read_breaks_numbered b ts n s br p f = numbered_with p f (read_of b ts n s br p) (read_numbered b ts n s br p)
 
 pub play_breaks_numbered : (s : List ℕ) (p : Play) (f : SliderFactors) → BreaksNumbered (with_breaks p f (given_play_of p (scores_of (file_of s))))
+unfolding ◌>>=◌
 play_breaks_numbered s p f = go (scores_of (file_of s)) refl
   where
-    go : (x : Outcome Scores) → scores_of (file_of s) ≡ x → BreaksNumbered (with_breaks p f (given_play_of p x))
-    go (refusal n at) e = let r = refusal_rule s n at e in numbered (number_in 14 n r (omega arith))
-    go (values sc) e =
+    go : (x : OrRefusal Scores) → scores_of (file_of s) ≡ x → BreaksNumbered (with_breaks p f (given_play_of p x))
+    go (refused r) e = let is = refusal_rule s r.rule r.offset e in numbered (number_in 14 r.rule is (omega arith))
+    go (good sc) e =
         let a = score_attributes_at sc.map p.passed_objects in
         numbered_with p f (given_score p a) (numbered_rule (ruled_given p a))
 

@@ -44,7 +44,7 @@ use Rattle.estimates.specs.Effective.{estimates_of}
 use Rattle.slider_breaks.specs.Given.{BreaksScore, with_breaks}
 use Rattle.slider_breaks.specs.declared.calculator.SliderFactors.{SliderFactors}
 use Rattle.slider_breaks.proofs.Range.{BreaksInRange}
-use Rattle.scoring.specs.Scores.{Outcome, refusal, values, Scores, scores_of, map_score_of, given_play_of, listed_play_of}
+use Rattle.scoring.specs.Scores.{Scores, scores_of, map_score_of, given_play_of, listed_play_of}
 use Rattle.entries.specs.Entry.{place_words}
 use Rattle.entries.specs.Words.{entry_at}
 use Rattle.tree.specs.Board.{Covers, own, left, right}
@@ -80,11 +80,11 @@ never_cut : (s : List ℕ) → listed_of (input_text s) 262144 ≢ None
 never_cut s e = omega (arith, ap has_room (sym (every_listing_fits s) ∙ e))
 
 -- 0 is a host's number of a good call
-no_file_gets_0 : (s : List ℕ) (n : Rule) (at : ℕ) → scores_of (file_of s) ≡ refusal n at → number_of n ≢ 0
+no_file_gets_0 : (s : List ℕ) (n : Rule) (at : ℕ) → scores_of (file_of s) ≡ refused (refusal_at n at) → number_of n ≢ 0
 no_file_gets_0 s n at e z = omega (arith, (refused_by_a_rule s n at e).0, z)
 
 -- nor 10, which was the highest of a file's once
-no_file_gets_10 : (s : List ℕ) (n : Rule) (at : ℕ) → scores_of (file_of s) ≡ refusal n at → number_of n ≢ 10
+no_file_gets_10 : (s : List ℕ) (n : Rule) (at : ℕ) → scores_of (file_of s) ≡ refused (refusal_at n at) → number_of n ≢ 10
 no_file_gets_10 s n at e z = omega (arith, (refused_by_a_rule s n at e).1, z)
 
 -- the number of a refusal, and 1 for a value
@@ -120,11 +120,11 @@ no_read_with_factors_gets_15 b ts n s br p f at e = omega (arith, (between _ (re
 
 -- a host that still tests for 10 never finds it: in no answer of a call on a file, ..
 module _ (s : List ℕ) (p : HostPlay) (f : SliderFactors) where
-  abbrev x : Outcome Scores
+  abbrev x : OrRefusal Scores
   x = scores_of (file_of s)
 
   no_10_of_a_file : (i at passed : ℕ)
-      → ((n : Rule) → x ≡ refusal n at → number_of n ≢ 10)
+      → ((n : Rule) → x ≡ refused (refusal_at n at) → number_of n ≢ 10)
       × ((n : Rule) → simulated_of (file_of s) passed ≡ refused (refusal_at n at) → number_of n ≢ 10)
       × (eqb (map_info_of (answer_of (file_of s))).status 10 ≡ false)
       × (eqb (map_answer_of (map_score_of x)).status 10 ≡ false)
@@ -160,17 +160,17 @@ module _ (s : List ℕ) (p : HostPlay) (f : SliderFactors) where
   )
 
 -- the map of an accepted file, without the file's plays, has a file that is accepted
-map_alone : (s : List ℕ) (sc : Scores) → scores_of (file_of s) ≡ values sc → scores_of (file_of (map_file sc.map)) ≡ values (record { map = sc.map; plays = [] })
+map_alone : (s : List ℕ) (sc : Scores) → scores_of (file_of s) ≡ good sc → scores_of (file_of (map_file sc.map)) ≡ good (record { map = sc.map; plays = [] })
 map_alone s sc e = keeping_the_rules_is_accepted sc.map (accepted_keeps_the_rules s sc e)
 
 -- the scores of an accepted file are those of the map and the plays that its bytes are written from
-scores_of_its_bytes : (s : List ℕ) (b : Bytes s) (sc : Scores) (e : scores_of (file_of s) ≡ values sc)
-    → values sc ≡ values (record { map = (no_number_only_when_the_rules_are_kept s b sc e).map; plays = scored_plays (no_number_only_when_the_rules_are_kept s b sc e).map (no_number_only_when_the_rules_are_kept s b sc e).plays })
+scores_of_its_bytes : (s : List ℕ) (b : Bytes s) (sc : Scores) (e : scores_of (file_of s) ≡ good sc)
+    → ◌≡◌ {A = OrRefusal Scores} (good sc) (good (record { map = (no_number_only_when_the_rules_are_kept s b sc e).map; plays = scored_plays (no_number_only_when_the_rules_are_kept s b sc e).map (no_number_only_when_the_rules_are_kept s b sc e).plays }))
 scores_of_its_bytes s b sc e = sym e ∙ no_number_when_the_rules_are_kept s (no_number_only_when_the_rules_are_kept s b sc e)
 
 -- ---- Demand 2
 -- a file without plays has no score of a play
-no_play_no_score : (s : List ℕ) (sc : Scores) (e : scores_of (file_of s) ≡ values sc) → (values_are_the_definition's s sc e).file.plays ≡ [] → sc.plays ≡ []
+no_play_no_score : (s : List ℕ) (sc : Scores) (e : scores_of (file_of s) ≡ good sc) → (values_are_the_definition's s sc e).file.plays ≡ [] → sc.plays ≡ []
 unfolding bare
 no_play_no_score s sc e none =
     let v = values_are_the_definition's s sc e in
@@ -260,7 +260,7 @@ within_the_hour = ((every_half_spin_by_counts 10803 20000).legacy, (every_half_s
 
 -- ---- Demand 3
 -- the file of an accepted map is scored as that map
-accepted_is_scored : (m : Map) → AcceptedMap m → scores_of (file_of (map_file m)) ≡ values (record { map = m; plays = [] })
+accepted_is_scored : (m : Map) → AcceptedMap m → scores_of (file_of (map_file m)) ≡ good (record { map = m; plays = [] })
 accepted_is_scored m a = keeping_the_rules_is_accepted m (accepted_maps_are_within m a)
 
 -- what an edit goes by is true of every map within the limits

@@ -1,8 +1,8 @@
 -- Document 01, "Lists of calls": demand 3, "a single claim about the whole list, and not one for each call". Each definition cites its sentence; the
 -- read with factors is that of document 02, §1.
-use Rattle.std.specs.Prelude.{ℕ, ◌*◌, ◌≡◌, ◌⊎◌, Bool, true, false, cond, ◌&&◌, List, [], ◌∷◌, ◌++◌, eqb, ltb, Float, length, drop, set}
+use Rattle.std.specs.Prelude.{ℕ, ◌*◌, ◌≡◌, ◌⊎◌, Bool, true, false, cond, not, ◌&&◌, List, [], ◌∷◌, ◌++◌, eqb, ltb, Float, length, drop, set}
 use Rattle.entries.specs.Entry.{place_words}
-use Rattle.rules.specs.Refusals.{Checked, OrRefusal, good, refused, refusal_at, at_0, INPUT, BONUS, PLACE}
+use Rattle.rules.specs.Refusals.{Checked, OrRefusal, good, refused, ◌>>=◌, ◌>>◌, refuse◌when◌, refusal_at, at_0, INPUT, BONUS, PLACE}
 use Rattle.records.specs.Objects.{Object}
 use Rattle.map_file.specs.File.{Map, File, Result, accepted, refused_at, file_of}
 use Rattle.records.specs.declared.beatmap.BreakPeriod.{BreakPeriod}
@@ -12,7 +12,7 @@ use Rattle.encoding.specs.Encoding.{map_file, play_bytes}
 use Rattle.encoding.specs.Limits.{PlaySized}
 use Rattle.simulator.specs.Attributes.{score_attributes_at}
 use Rattle.play_score.specs.PlayRules.{given_score}
-use Rattle.scoring.specs.Scores.{Outcome, refusal, values, Scores, scores_of, given_play_of}
+use Rattle.scoring.specs.Scores.{Scores, scores_of, given_play_of}
 use Rattle.play_score.specs.declared.PlayScore.{PlayScore}
 use Rattle.slider_breaks.specs.Given.{BreaksScore, with_breaks}
 use Rattle.slider_breaks.specs.declared.calculator.SliderFactors.{SliderFactors}
@@ -117,21 +117,20 @@ lent_after_all (c ∷ cs) l = lent_after_all cs (lent_after c l)
 
 -- ---- the right answers
 -- "every other edit is refused": with 12, with the number of its record's first wrong, or with 7
-abbrev pub record_answer : Map → ℕ → Checked Object → OrRefusal (Unit {0})
-record_answer m place (refused n) = refused (refusal_at n 0)
-record_answer m place (good o) = cond (is_accepted (changed m place o)) (good tt) (refused (refusal_at BONUS 0))
-
 abbrev pub edit_answer : Map → ℕ → List ℕ → OrRefusal (Unit {0})
-edit_answer m place r = cond (ltb place (length m.objects)) (record_answer m place (object_in r)) (refused (refusal_at PLACE 0))
+edit_answer m place r = at_0 do
+  refuse PLACE when not (ltb place (length m.objects))
+  o ← object_in r
+  refuse BONUS when not (is_accepted (changed m place o))
 
 -- the play of a file with one play
 abbrev pub only_play : List PlayScore → OrRefusal PlayScore
 only_play [] = refused (refusal_at INPUT 0)
 only_play (s ∷ ss) = good s
 
-abbrev pub from_file : Outcome Scores → OrRefusal PlayScore
-from_file (refusal n at) = refused (refusal_at n 0)
-from_file (values s) = only_play s.plays
+abbrev pub from_file : OrRefusal Scores → OrRefusal PlayScore
+from_file (refused r) = refused (refusal_at r.rule 0)
+from_file (good s) = only_play s.plays
 
 -- "A read with the map's count, settings and breaks gets 8, 9 .. exactly when its play, put after the map in the file, gets that same number; its
 -- values are all score attributes and estimates of demand 2": as a file's with just that play, and as the scoring call's of a play on the map. (Document

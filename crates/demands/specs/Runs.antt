@@ -1,5 +1,5 @@
 -- Document 01, "Runs to reproduce": the runs as one table, under one proof.
-use Rattle.std.specs.Prelude.{◌≡◌, refl, List, [], ◌∷◌, ◌++◌, map, ℕ, ◌+◌, ◌*◌, ℤ, pos, length}
+use Rattle.std.specs.Prelude.{◌≡◌, refl, List, [], ◌∷◌, map, flat_map, ℕ, ◌+◌, ◌*◌, ℤ, pos, length}
 use Rattle.std.proofs.Common.{arith}
 use Rattle.std.specs.Float.{binary64}
 use Rattle.std.specs.Float.Ieee.{add, sub, mul, div, neg, lt, is_nan, of_int, to_bits, to_unsigned}
@@ -79,8 +79,7 @@ spinner_turns (slider is) = []
 spinner_turns (spinner d) = (total_half_spins d, required_half_spins d + 3) ∷ []
 
 abbrev turns : List Object → List (ℕ × ℕ)
-turns [] = []
-turns (o ∷ os) = spinner_turns o.kind ++ turns os
+turns = flat_map (λ (o : Object). spinner_turns o.kind)
 
 abbrev map_of : Run → Map
 map_of r = record {

@@ -1,3 +1,4 @@
+pub mod ByWord
 pub mod Limits
 pub mod Runs
 pub mod WordLaws

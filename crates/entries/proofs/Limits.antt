@@ -1,5 +1,5 @@
 -- What the test of an entry's limits says, word by word, and that joining two entries within them wraps nowhere.
-use Prim.Native.Nat.{ℕ, zero, suc, ◌+◌, ◌*◌, ◌^◌, ◌≤◌, ◌<◌, suc-le-suc}
+use Prim.Native.Nat.{ℕ, zero, suc, ◌+◌, ◌*◌, ◌≤◌, ◌<◌, suc-le-suc}
 use mathlib.Core.Path.{◌≡◌, refl, sym, ap, ◌∙◌, subst}
 use mathlib.Core.Logic.{◌≢◌}
 use mathlib.Core.Bool.{Bool, true, false, cond, ◌&&◌, false≢true}
@@ -8,12 +8,14 @@ use native.Mathlib.Omega.{arith}
 use native.Mathlib.Nat.{add_comm, mul-le-mul, not-suc-le-zero, le_of_suc-le-suc, zero-lt-suc}
 use native.Mathlib.Decide.{ℕ_discrete}
 use lib.Dec.{leb, ltb, eqb, lit<, lit≤}
-use lib.ListN.{length, get_or}
-use borrow.Author.Tests.{leb-true, le-leb}
-use Rattle.rules.specs.Limits.{max_levels, max_combos_before, combo_limit, max_objects, max_bonus}
+use lib.ListN.{length, get_or, set}
+use lib.Seq.{get_or-set_other}
+use borrow.Author.Tests.{leb-true, le-leb, ne_eqb}
+use Rattle.rules.specs.Limits.{max_levels, max_combos_before, combo_limit, max_objects}
 use Rattle.entries.specs.Entry.{none, joined, in_limits, all_le, words_of, limit_list, SumOf, entry_words}
 use Rattle.entries.specs.declared.entry.Entry.{Entry}
 use Rattle.rules.proofs.Laws.{and_left, and_right}
+use Rattle.entries.proofs.ByWord.{sums, sums_at}
 
 all_le_start : (t : Bool) (xs ls : List ℕ) → all_le t xs ls ≡ true → t ≡ true
 all_le_start t [] ls h = h
@@ -33,42 +35,18 @@ all_le_of t (x ∷ xs) [] ht g h = absurd (not-suc-le-zero g)
 all_le_of t (x ∷ xs) (l ∷ ls) ht g h =
     all_le_of (t && leb x l) xs ls (ap (λ (y : Bool). y && leb x l) ht ∙ le-leb x l (h 0 (zero-lt-suc (length xs)))) (le_of_suc-le-suc g) (λ i k. h (suc i) (suc-le-suc k))
 
+-- where no number is left
+pub all_le_end : (t : Bool) (xs ls : List ℕ) → length xs ≡ 0 → all_le t xs ls ≡ t
+all_le_end t [] ls h = refl
+all_le_end t (x ∷ xs) ls h = absurd (omega (arith, h))
+
 pub word_le : (e : Entry) → in_limits e ≡ true → (i : ℕ) → i < entry_words → get_or (words_of e) i 0 ≤ get_or limit_list i 0
 unfolding in_limits
 word_le e h = all_le_lem true (words_of e) limit_list h
 
--- the same by name
-pub record WordsIn (e : Entry) : Type 0 where
-  pub object_count : e.object_count ≤ max_objects
-  pub combo : e.combo ≤ combo_limit
-  pub combos_before : e.combos_before ≤ max_combos_before
-  pub first_no_slider : e.first_no_slider ≤ 1
-  pub accuracy_score : e.accuracy_score ≤ max_bonus
-  pub legacy_bonus_score : e.legacy_bonus_score ≤ max_bonus
-  pub standardised_bonus_score : e.standardised_bonus_score ≤ max_bonus
-  pub n_circles : e.n_circles ≤ max_objects
-  pub n_sliders : e.n_sliders ≤ max_objects
-  pub n_spinners : e.n_spinners ≤ max_objects
-  pub n_repeats : e.n_repeats ≤ combo_limit
-  pub n_ticks : e.n_ticks ≤ combo_limit
-  pub spinner_score : e.spinner_score ≤ max_bonus
-
-pub words_in : (e : Entry) → in_limits e ≡ true → WordsIn e
-words_in e h = record {
-  object_count = word_le e h 0 (lit< tt);
-  combo = word_le e h 1 (lit< tt);
-  combos_before = word_le e h 2 (lit< tt);
-  first_no_slider = word_le e h 3 (lit< tt);
-  accuracy_score = word_le e h 4 (lit< tt);
-  legacy_bonus_score = word_le e h 5 (lit< tt);
-  standardised_bonus_score = word_le e h 6 (lit< tt);
-  n_circles = word_le e h 7 (lit< tt);
-  n_sliders = word_le e h 8 (lit< tt);
-  n_spinners = word_le e h 9 (lit< tt);
-  n_repeats = word_le e h 10 (lit< tt);
-  n_ticks = word_le e h 11 (lit< tt);
-  spinner_score = word_le e h 12 (lit< tt);
-}
+-- what `is_unsound` and `state` compute with
+pub counts_low : (e : Entry) → in_limits e ≡ true → (e.n_sliders ≤ max_objects) × (e.combos_before ≤ max_combos_before) × (e.first_no_slider ≤ 1)
+counts_low e h = (word_le e h 8 (lit< tt), word_le e h 2 (lit< tt), word_le e h 3 (lit< tt))
 
 pub within_of : (e : Entry) → ((i : ℕ) → i < entry_words → get_or (words_of e) i 0 ≤ get_or limit_list i 0) → in_limits e ≡ true
 unfolding in_limits
@@ -104,20 +82,18 @@ module _ (a b : Entry) where
   -- each word but f is the sum of both, and s has the combo that the objects of b meet
   pub word_joined : (i : ℕ) → i < entry_words → i ≢ 3 → get_or (words_of (joined a b)) i 0 ≡ get_or (words_of a) i 0 + get_or (words_of b) i 0 + more i
   unfolding joined
-  word_joined zero h n = omega arith
-  word_joined (suc zero) h n = omega arith
-  word_joined (suc (suc zero)) h n = omega arith
-  word_joined (suc (suc (suc zero))) h n = absurd (n refl)
-  word_joined (suc (suc (suc (suc zero)))) h n = omega arith
-  word_joined (suc (suc (suc (suc (suc zero))))) h n = omega arith
-  word_joined (suc (suc (suc (suc (suc (suc zero)))))) h n = omega arith
-  word_joined (suc (suc (suc (suc (suc (suc (suc zero))))))) h n = omega arith
-  word_joined (suc (suc (suc (suc (suc (suc (suc (suc zero)))))))) h n = omega arith
-  word_joined (suc (suc (suc (suc (suc (suc (suc (suc (suc zero))))))))) h n = omega arith
-  word_joined (suc (suc (suc (suc (suc (suc (suc (suc (suc (suc zero)))))))))) h n = omega arith
-  word_joined (suc (suc (suc (suc (suc (suc (suc (suc (suc (suc (suc zero))))))))))) h n = omega arith
-  word_joined (suc (suc (suc (suc (suc (suc (suc (suc (suc (suc (suc (suc zero)))))))))))) h n = omega arith
-  word_joined (suc (suc (suc (suc (suc (suc (suc (suc (suc (suc (suc (suc (suc i))))))))))))) h n = absurd (omega (arith, h))
+  word_joined i h n =
+      get_or-set_other (set (sums (words_of a) (words_of b)) 2 before) 3 i (joined a b).first_no_slider 0 n ∙ go (ℕ_discrete i 2)
+    where
+      sum : get_or (sums (words_of a) (words_of b)) i 0 ≡ get_or (words_of a) i 0 + get_or (words_of b) i 0
+      sum = sums_at (words_of a) (words_of b) i h h
+
+      before : ℕ
+      before = a.combos_before + b.combos_before + a.combo * b.object_count
+
+      go : Dec (i ≡ 2) → get_or (set (sums (words_of a) (words_of b)) 2 before) i 0 ≡ get_or (words_of a) i 0 + get_or (words_of b) i 0 + more i
+      go (yes e) = rw e refl
+      go (no d) = get_or-set_other (sums (words_of a) (words_of b)) 2 i before 0 d ∙ simp (ne_eqb i 2 d) (omega (arith, sum))
 
   more_most : (i : ℕ) → more i ≤ a.combo * b.object_count
   more_most i = go (eqb i 2)
@@ -191,22 +167,6 @@ module _ (n : ℕ) (a b : Entry) (few : n < 14) (ha : SumOf n a) (hb : in_limits
       let p = mul-le-mul (word_le b hb 1 (lit< tt)) count in
       ordered b a (λ i. add_comm (get_or (words_of b) i 0) (get_or (words_of a) i 0)) (omega (arith, p)) (first_most b a _ first_low.1 first_low.0)
 
--- each word's sum fits 64 bits
-pub record SumsFit (a b : Entry) : Type 0 where
-  pub object_count : a.object_count + b.object_count < 2 ^ 64
-  pub combo : a.combo + b.combo < 2 ^ 64
-  pub combos_before : a.combos_before + b.combos_before < 2 ^ 64
-  pub first_no_slider : a.first_no_slider + b.first_no_slider < 2 ^ 64
-  pub accuracy_score : a.accuracy_score + b.accuracy_score < 2 ^ 64
-  pub legacy_bonus_score : a.legacy_bonus_score + b.legacy_bonus_score < 2 ^ 64
-  pub standardised_bonus_score : a.standardised_bonus_score + b.standardised_bonus_score < 2 ^ 64
-  pub n_circles : a.n_circles + b.n_circles < 2 ^ 64
-  pub n_sliders : a.n_sliders + b.n_sliders < 2 ^ 64
-  pub n_spinners : a.n_spinners + b.n_spinners < 2 ^ 64
-  pub n_repeats : a.n_repeats + b.n_repeats < 2 ^ 64
-  pub n_ticks : a.n_ticks + b.n_ticks < 2 ^ 64
-  pub spinner_score : a.spinner_score + b.spinner_score < 2 ^ 64
-
 module _ (a b : Entry) (ha : SumOf (max_levels + 1) a) (hb : in_limits b ≡ true) where
   pub sum_fits : (i : ℕ) → i < entry_words → get_or (words_of a) i 0 + get_or (words_of b) i 0 < 18446744073709551616
   unfolding SumOf
@@ -216,22 +176,8 @@ module _ (a b : Entry) (ha : SumOf (max_levels + 1) a) (hb : in_limits b ≡ tru
       let m = limit_most i in
       omega (arith, x, y, m)
 
-  pub sums_fit : SumsFit a b
-  sums_fit = record {
-    object_count = sum_fits 0 (lit< tt);
-    combo = sum_fits 1 (lit< tt);
-    combos_before = sum_fits 2 (lit< tt);
-    first_no_slider = sum_fits 3 (lit< tt);
-    accuracy_score = sum_fits 4 (lit< tt);
-    legacy_bonus_score = sum_fits 5 (lit< tt);
-    standardised_bonus_score = sum_fits 6 (lit< tt);
-    n_circles = sum_fits 7 (lit< tt);
-    n_sliders = sum_fits 8 (lit< tt);
-    n_spinners = sum_fits 9 (lit< tt);
-    n_repeats = sum_fits 10 (lit< tt);
-    n_ticks = sum_fits 11 (lit< tt);
-    spinner_score = sum_fits 12 (lit< tt);
-  }
+  pub befores_fit : a.combos_before + b.combos_before < 18446744073709551616
+  befores_fit = sum_fits 2 (lit< tt)
 
   pub product_fits : a.combo * b.object_count ≤ 114802688 * max_objects
   unfolding SumOf

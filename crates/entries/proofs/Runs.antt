@@ -1,51 +1,19 @@
 -- The words of a run of objects: those of two neighbouring runs joined are those of both, and one object's are what the code makes of it.
 use Prim.Native.Nat.{ℕ, suc, ◌+◌, ◌*◌, ◌<◌}
-use mathlib.Core.Path.{◌≡◌, refl, ap, ◌∙◌}
+use mathlib.Core.Path.{◌≡◌, refl, ap, ap₂, ◌∙◌}
 use mathlib.Core.Bool.{Bool, true, false, cond}
 use mathlib.Core.List.{List, [], ◌∷◌, ◌++◌}
 use native.Mathlib.Omega.{arith}
-use native.Mathlib.Nat.{add_comm}
-use lib.ListN.{length, get_or, length-append}
+use lib.ListN.{length, length-append}
 use borrow.Author.Tests.{lt-ltb}
 use Rattle.records.specs.Objects.{Object, Kind, circle, slider, spinner, repeats, ticks, kind_view, kind_bonus}
 use Rattle.spinner.specs.Bonus.{legacy_of, standardised_of}
 use Rattle.simulator.specs.Nested.{spinner_score_of}
 use Rattle.simulator.specs.Combo.{gain, gain_before, combos_before_of, first_no_slider_of}
 use Rattle.simulator.proofs.Sums.{items_count}
-use Rattle.entries.specs.Entry.{accuracy_gain, standardised_gain, is_circle, is_slider, is_spinner, repeats_in, ticks_in, spinner_score_in, total, entry_of, none, first_of, summed, joined, words_of, own_entry, entry_words}
+use Rattle.entries.specs.Entry.{accuracy_gain, standardised_gain, is_circle, is_slider, is_spinner, repeats_in, ticks_in, spinner_score_in, total, entry_of, none, first_of, summed, joined, own_entry}
 use Rattle.entries.specs.declared.entry.Entry.{Entry}
-
--- two entries whose words agree
-pub entry_same : (v w : Entry) → ((i : ℕ) → i < entry_words → get_or (words_of v) i 0 ≡ get_or (words_of w) i 0) → v ≡ w
-entry_same v w h =
-    let h0 : v.object_count ≡ w.object_count = h 0 (omega arith) in
-    let h1 : v.combo ≡ w.combo = h 1 (omega arith) in
-    let h2 : v.combos_before ≡ w.combos_before = h 2 (omega arith) in
-    let h3 : v.first_no_slider ≡ w.first_no_slider = h 3 (omega arith) in
-    let h4 : v.accuracy_score ≡ w.accuracy_score = h 4 (omega arith) in
-    let h5 : v.legacy_bonus_score ≡ w.legacy_bonus_score = h 5 (omega arith) in
-    let h6 : v.standardised_bonus_score ≡ w.standardised_bonus_score = h 6 (omega arith) in
-    let h7 : v.n_circles ≡ w.n_circles = h 7 (omega arith) in
-    let h8 : v.n_sliders ≡ w.n_sliders = h 8 (omega arith) in
-    let h9 : v.n_spinners ≡ w.n_spinners = h 9 (omega arith) in
-    let h10 : v.n_repeats ≡ w.n_repeats = h 10 (omega arith) in
-    let h11 : v.n_ticks ≡ w.n_ticks = h 11 (omega arith) in
-    let h12 : v.spinner_score ≡ w.spinner_score = h 12 (omega arith) in
-    λ i. record {
-      object_count = h0 i;
-      combo = h1 i;
-      combos_before = h2 i;
-      first_no_slider = h3 i;
-      accuracy_score = h4 i;
-      legacy_bonus_score = h5 i;
-      standardised_bonus_score = h6 i;
-      n_circles = h7 i;
-      n_sliders = h8 i;
-      n_spinners = h9 i;
-      n_repeats = h10 i;
-      n_ticks = h11 i;
-      spinner_score = h12 i;
-    }
+use Rattle.entries.proofs.ByWord.{summed_turned}
 
 -- the joined entry of two in either order: k and n are the factors, c, f and g what the first objects are told from, h what they are
 pub joined_at : (l : Bool) (a b : Entry) (k n c f g h : ℕ) → k ≡ cond l a.combo b.combo → n ≡ cond l b.object_count a.object_count
@@ -57,21 +25,7 @@ joined_at true a b k n c f g h ek en ec ef eg eh = rw (ek, en, eh, ec, ef, eg) r
 joined_at false a b k n c f g h ek en ec ef eg eh =
     let before : a.combos_before + b.combos_before + k * n ≡ b.combos_before + a.combos_before + b.combo * a.object_count = rw (ek, en) (omega arith) in
     let first : h ≡ first_of b.object_count b.first_no_slider a.first_no_slider = rw (eh, ec, ef, eg) refl in
-    λ i. record {
-      object_count = add_comm a.object_count b.object_count i;
-      combo = add_comm a.combo b.combo i;
-      combos_before = before i;
-      first_no_slider = first i;
-      accuracy_score = add_comm a.accuracy_score b.accuracy_score i;
-      legacy_bonus_score = add_comm a.legacy_bonus_score b.legacy_bonus_score i;
-      standardised_bonus_score = add_comm a.standardised_bonus_score b.standardised_bonus_score i;
-      n_circles = add_comm a.n_circles b.n_circles i;
-      n_sliders = add_comm a.n_sliders b.n_sliders i;
-      n_spinners = add_comm a.n_spinners b.n_spinners i;
-      n_repeats = add_comm a.n_repeats b.n_repeats i;
-      n_ticks = add_comm a.n_ticks b.n_ticks i;
-      spinner_score = add_comm a.spinner_score b.spinner_score i;
-    }
+    summed_turned a b _ _ ∙ ap₂ (summed b a) before first
 
 -- ---- two runs
 total-append : (v : Kind → ℕ) (xs ys : List Object) → total v (xs ++ ys) ≡ total v xs + total v ys

@@ -5,14 +5,15 @@ use mathlib.Core.Logic.{◌≢◌}
 use mathlib.Core.List.{List, [], ◌∷◌, ◌++◌, append_assoc}
 use native.Mathlib.Omega.{arith}
 use native.Mathlib.Nat.{add-zero, add-suc, suc-add, not-suc-le-zero, le_of_suc-le-suc, ne_of_lt, ne_of_gt}
-use native.Mathlib.Numerals.{add-one}
 use native.Mathlib.Decide.{dec_lt}
 use lib.ListN.{length, get_or, take, drop, set, length-set, length-drop, take-append-drop}
-use lib.Seq.{sets, length-sets, get_or-set_same, get_or-set_other, get_or-drop, drop-drop, drop-set-lt, set_comm}
-use Rattle.entries.specs.Entry.{words_of, entry_words}
-use Rattle.entries.specs.Words.{entry_at, put_entry, puts, rest_of, words_from}
+use lib.Seq.{sets, paste, length-sets, get_or-set_same, get_or-set_other, get_or-drop, drop-drop, drop-set-lt, set_comm}
+use Rattle.std.proofs.lemmas.List.{get_or-take, length-take-le}
+use Rattle.std.proofs.lemmas.List.Edits.{sets-eq}
+use Rattle.entries.specs.Entry.{words_of, of_words, entry_words}
+use Rattle.entries.specs.Words.{entry_at, put_entry, words_from}
 use Rattle.entries.specs.declared.entry.Entry.{Entry}
-use Rattle.entries.proofs.Runs.{entry_same}
+use Rattle.entries.proofs.ByWord.{word_of, words_are, entry_same}
 
 -- ---- a run of stores, read back
 
@@ -33,25 +34,17 @@ pub sets_drop : (vs b : List ℕ) (i n : ℕ) → i + length vs ≤ n → drop n
 sets_drop [] b i n h = refl
 sets_drop (v ∷ vs) b i n h = sets_drop vs (set b i v) (suc i) n (omega arith) ∙ drop-set-lt n b i v (omega arith)
 
+-- one run after another
+pub sets_append : (vs ws b : List ℕ) (i : ℕ) → sets b i (vs ++ ws) ≡ sets (sets b i vs) (i + length vs) ws
+sets_append [] ws b i = ap (λ (n : ℕ). sets b n ws) (sym (add-zero i))
+sets_append (v ∷ vs) ws b i = sets_append vs ws (set b i v) (suc i) ∙ ap (λ (n : ℕ). sets (sets (set b i v) (suc i) vs) n ws) (omega arith)
+
 -- ---- an entry is its words
 
 -- the word at a place below 13
 word_at_lem : (b : List ℕ) (e k : ℕ) → k < entry_words → get_or (words_of (entry_at b e)) k 0 ≡ get_or b (e * entry_words + k) 0
 unfolding entry_at
-word_at_lem b e zero h = ap (λ (n : ℕ). get_or b n 0) (sym (add-zero (e * entry_words)))
-word_at_lem b e (suc zero) h = refl
-word_at_lem b e (suc (suc zero)) h = refl
-word_at_lem b e (suc (suc (suc zero))) h = refl
-word_at_lem b e (suc (suc (suc (suc zero)))) h = refl
-word_at_lem b e (suc (suc (suc (suc (suc zero))))) h = refl
-word_at_lem b e (suc (suc (suc (suc (suc (suc zero)))))) h = refl
-word_at_lem b e (suc (suc (suc (suc (suc (suc (suc zero))))))) h = refl
-word_at_lem b e (suc (suc (suc (suc (suc (suc (suc (suc zero)))))))) h = refl
-word_at_lem b e (suc (suc (suc (suc (suc (suc (suc (suc (suc zero))))))))) h = refl
-word_at_lem b e (suc (suc (suc (suc (suc (suc (suc (suc (suc (suc zero)))))))))) h = refl
-word_at_lem b e (suc (suc (suc (suc (suc (suc (suc (suc (suc (suc (suc zero))))))))))) h = refl
-word_at_lem b e (suc (suc (suc (suc (suc (suc (suc (suc (suc (suc (suc (suc zero)))))))))))) h = refl
-word_at_lem b e (suc (suc (suc (suc (suc (suc (suc (suc (suc (suc (suc (suc (suc k))))))))))))) h = absurd (omega (arith, h))
+word_at_lem b e k h = word_of _ k h ∙ get_or-take entry_words _ k 0 h ∙ get_or-drop (e * entry_words) b k 0
 
 -- two entries whose words agree
 pub entry_ext : (b b' : List ℕ) (e e' : ℕ) → ((k : ℕ) → k < entry_words → get_or b (e * entry_words + k) 0 ≡ get_or b' (e' * entry_words + k) 0) → entry_at b e ≡ entry_at b' e'
@@ -63,13 +56,18 @@ entry_is b e v h = entry_same (entry_at b e) v (λ k g. word_at_lem b e k g ∙ 
 
 -- ---- the laws of a store
 
-puts_sets : (vs b : List ℕ) (at k : ℕ) → puts b at k vs ≡ sets b (at + k) vs
-puts_sets [] b at k = refl
-puts_sets (v ∷ vs) b at k = puts_sets vs (set b (at + k) v) at (suc k) ∙ ap (λ (n : ℕ). sets (set b (at + k) v) n vs) (add-suc at k)
-
-put_sets : (b : List ℕ) (e : ℕ) (v : Entry) → put_entry b e v ≡ sets b (e * entry_words) (words_of v)
+pub put_sets : (b : List ℕ) (e : ℕ) (v : Entry) → put_entry b e v ≡ sets b (e * entry_words) (words_of v)
 unfolding put_entry
-put_sets b e v = puts_sets (rest_of v) (set b (e * entry_words) v.object_count) (e * entry_words) 1 ∙ ap (λ (n : ℕ). sets (set b (e * entry_words) v.object_count) n (rest_of v)) (add-one (e * entry_words))
+put_sets b e v = refl
+
+-- ---- a load and a store, word by word
+pub entry_read : (b : List ℕ) (e : ℕ) (ws : List ℕ) → length ws ≡ entry_words → e * entry_words + entry_words ≤ length b → ((k : ℕ) → k < entry_words → get_or ws k 0 ≡ get_or b (e * entry_words + k) 0)
+    → of_words ws ≡ entry_at b e
+entry_read b e ws n room h = sym (entry_is b e (of_words ws) (λ k lt. sym (word_of ws k lt ∙ h k lt)))
+
+pub pasted : (b : List ℕ) (e : ℕ) (v : Entry) → e * entry_words + entry_words ≤ length b → paste b (e * entry_words) (words_of v) entry_words ≡ put_entry b e v
+unfolding put_entry
+pasted b e v room = sym (sets-eq (words_of v) b (e * entry_words) room)
 
 pub put_same : (b : List ℕ) (e : ℕ) (v : Entry) → e * entry_words + entry_words ≤ length b → entry_at (put_entry b e v) e ≡ v
 put_same b e v h = rw put_sets (entry_is _ e v (λ k g. sets_in (words_of v) b (e * entry_words) k g h))
@@ -106,23 +104,10 @@ put_drop b e v n h = rw put_sets (sets_drop (words_of v) b (e * entry_words) n h
 
 -- ---- a list as the words of its entries
 
-abbrev gets : List ℕ → ℕ → ℕ → List ℕ
-gets b i zero = []
-gets b i (suc n) = get_or b i 0 ∷ gets b (suc i) n
-
-gets_suc : (x : ℕ) (b : List ℕ) (i n : ℕ) → gets (x ∷ b) (suc i) n ≡ gets b i n
-gets_suc x b i zero = refl
-gets_suc x b i (suc n) = ap (λ (l : List ℕ). get_or b i 0 ∷ l) (gets_suc x b (suc i) n)
-
-take_gets : (n : ℕ) (b : List ℕ) → n ≤ length b → take n b ≡ gets b 0 n
-take_gets zero b h = refl
-take_gets (suc n) [] h = absurd (not-suc-le-zero h)
-take_gets (suc n) (x ∷ b) h = ap (λ (l : List ℕ). x ∷ l) (take_gets n b (le_of_suc-le-suc h) ∙ sym (gets_suc x b 0 n))
-
 -- the first entry's words, and the others after them
 pub first_entry : (b : List ℕ) → entry_words ≤ length b → b ≡ words_of (entry_at b 0) ++ drop entry_words b
 unfolding entry_at
-first_entry b h = sym (take-append-drop entry_words b) ∙ ap (λ (l : List ℕ). l ++ drop entry_words b) (take_gets entry_words b h)
+first_entry b h = sym (take-append-drop entry_words b) ∙ ap (λ (l : List ℕ). l ++ drop entry_words b) (sym (words_are (take entry_words b) (length-take-le entry_words b h)))
 
 pub next_entry : (b : List ℕ) (x : ℕ) → entry_at (drop entry_words b) x ≡ entry_at b (suc x)
 next_entry b x = entry_ext _ _ x (suc x) (λ k g. get_or-drop entry_words b (x * entry_words + k) 0 ∙ ap (λ (n : ℕ). get_or b n 0) (omega arith))

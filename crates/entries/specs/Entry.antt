@@ -151,6 +151,24 @@ words_of v =
     ∷ v.spinner_score
     ∷ []
 
+-- the entry of these words
+abbrev pub of_words : List ℕ → Entry
+of_words words = record {
+  object_count = get_or words 0 0;
+  combo = get_or words 1 0;
+  combos_before = get_or words 2 0;
+  first_no_slider = get_or words 3 0;
+  accuracy_score = get_or words 4 0;
+  legacy_bonus_score = get_or words 5 0;
+  standardised_bonus_score = get_or words 6 0;
+  n_circles = get_or words 7 0;
+  n_sliders = get_or words 8 0;
+  n_spinners = get_or words 9 0;
+  n_repeats = get_or words 10 0;
+  n_ticks = get_or words 11 0;
+  spinner_score = get_or words 12 0;
+}
+
 -- "Limits: q, circles, sliders, spinners 8,192; k, repeats, ticks 8,200,192; s 137,438,953,472; f 1; the others 2,147,483,647"
 abbrev pub limit_list : List ℕ
 limit_list = max_objects ∷ combo_limit ∷ max_combos_before ∷ 1 ∷ max_bonus ∷ max_bonus ∷ max_bonus ∷ max_objects ∷ max_objects ∷ max_objects ∷ combo_limit ∷ combo_limit ∷ max_bonus ∷ []

@@ -50,6 +50,23 @@ impl Entry {
 
     pub const MAX_SCORE: u64 = HitObject::MAX_BONUS;
 
+    // Of each word, in their order.
+    const LIMITS: [u64; Entry::WORDS] = [
+        Entry::MAX_COUNT,
+        Entry::MAX_COMBO,
+        Entry::MAX_COMBOS_BEFORE,
+        Entry::MAX_FIRST,
+        Entry::MAX_SCORE,
+        Entry::MAX_SCORE,
+        Entry::MAX_SCORE,
+        Entry::MAX_COUNT,
+        Entry::MAX_COUNT,
+        Entry::MAX_COUNT,
+        Entry::MAX_COMBO,
+        Entry::MAX_COMBO,
+        Entry::MAX_SCORE,
+    ];
+
     // That of no object.
     pub fn new() -> Self
         ensures { result ≡ none }
@@ -57,7 +74,8 @@ impl Entry {
         Entry::default()
     }
 
-    // The sums of the simulator's state and counts, with the words of the board that these have not.
+    // The sums of the simulator's state and counts, with the words of the board that these have not. No shorter, since it names each word once, from
+    // other names.
     fn with(
         score: OsuLegacyScoreSimulator,
         nested: NestedScorePerObject,
@@ -101,23 +119,15 @@ impl Entry {
     }
 
     // One branch for all words.
-    #[tactic(auto, unfolding(crate::specs::Entry::in_limits))]
     pub fn within(self) -> bool
         ensures { result ≡ in_limits self }
     {
-        (self.object_count <= Entry::MAX_COUNT)
-            & (self.combo <= Entry::MAX_COMBO)
-            & (self.combos_before <= Entry::MAX_COMBOS_BEFORE)
-            & (self.first_no_slider <= Entry::MAX_FIRST)
-            & (self.accuracy_score <= Entry::MAX_SCORE)
-            & (self.legacy_bonus_score <= Entry::MAX_SCORE)
-            & (self.standardised_bonus_score <= Entry::MAX_SCORE)
-            & (self.n_circles <= Entry::MAX_COUNT)
-            & (self.n_sliders <= Entry::MAX_COUNT)
-            & (self.n_spinners <= Entry::MAX_COUNT)
-            & (self.n_repeats <= Entry::MAX_COMBO)
-            & (self.n_ticks <= Entry::MAX_COMBO)
-            & (self.spinner_score <= Entry::MAX_SCORE)
+        let words = <[u64; Entry::WORDS]>::from(self);
+        let mut within = true;
+        for (word, limit) in words.iter().zip(&Entry::LIMITS) {
+            within &= word <= limit;
+        }
+        within
     }
 
     // An entry as read, whose words are checked.
@@ -132,31 +142,26 @@ impl Entry {
     }
 
     // The sums of both, with the two words that hang on their order. No type says of how many entries self is a sum: each join makes one more.
-    #[tactic(auto, using(crate::proofs::Limits::sums_fit))]
+    #[tactic(auto, using(crate::proofs::ByWord::summing_next))]
     fn sum(self, b: CheckedEntry, combos_before: u64, first_no_slider: u64) -> Self
         requires { SumOf (max_levels + 1) self }
         ensures { result ≡ summed self b combos_before first_no_slider }
     {
-        let b = b.entry;
+        // By index, since std says nothing of what is written through a `zip` of `iter_mut`.
+        let mut words = <[u64; Entry::WORDS]>::from(self);
+        let more = <[u64; Entry::WORDS]>::from(b.entry);
+        for i in 0..Entry::WORDS {
+            words[i] += more[i];
+        }
         Entry {
-            object_count: self.object_count + b.object_count,
-            combo: self.combo + b.combo,
             combos_before,
             first_no_slider,
-            accuracy_score: self.accuracy_score + b.accuracy_score,
-            legacy_bonus_score: self.legacy_bonus_score + b.legacy_bonus_score,
-            standardised_bonus_score: self.standardised_bonus_score + b.standardised_bonus_score,
-            n_circles: self.n_circles + b.n_circles,
-            n_sliders: self.n_sliders + b.n_sliders,
-            n_spinners: self.n_spinners + b.n_spinners,
-            n_repeats: self.n_repeats + b.n_repeats,
-            n_ticks: self.n_ticks + b.n_ticks,
-            spinner_score: self.spinner_score + b.spinner_score,
+            ..Entry::from(words)
         }
     }
 
     // That of the objects of self, then those of b. Sums of a few entries leave room, so that they can be checked later.
-    #[tactic(auto, using(crate::proofs::Limits::sums_fit, crate::proofs::Limits::product_fits, crate::proofs::Limits::combos_fit), unfolding(crate::specs::Entry::joined))]
+    #[tactic(auto, using(crate::proofs::Limits::befores_fit, crate::proofs::Limits::product_fits, crate::proofs::Limits::combos_fit), unfolding(crate::specs::Entry::joined))]
     pub fn join(self, b: CheckedEntry) -> Self
         requires { SumOf (max_levels + 1) self }
         ensures { result ≡ joined self b }
@@ -174,7 +179,8 @@ impl Entry {
     }
 
     // The same, or that of the objects of b and then those of self: the factors are chosen, so that a way up the tree takes no branch for its side.
-    #[tactic(auto, using(crate::proofs::Limits::sums_fit, crate::proofs::Limits::chosen_product, crate::proofs::Limits::chosen_combos))]
+    // `join` stands beside it, since this asks besides that self's own count has room for one more; a build and a read's sum need no choice.
+    #[tactic(auto, using(crate::proofs::Limits::befores_fit, crate::proofs::Limits::chosen_product, crate::proofs::Limits::chosen_combos))]
     pub fn join_at(self, b: CheckedEntry, leads: bool) -> Self
         requires { SumOf (max_levels + 1) self × (self.object_count ≤ (max_levels + 1) * max_objects) }
         ensures { result ≡ cond leads (joined self b) (joined b self) }

@@ -10,7 +10,7 @@ use spinner::{LegacyBonusScore, StandardisedBonusScore};
 
 impl CheckedEntry {
     // No objects have such words: each slider gives a head and a tail, and before each 300 but a leading one stands combo.
-    #[tactic(auto, using(crate::proofs::Limits::words_in), unfolding(crate::specs::Scores::unsound))]
+    #[tactic(auto, using(crate::proofs::Limits::counts_low), unfolding(crate::specs::Scores::unsound))]
     pub fn is_unsound(self) -> bool
         ensures { result ≡ unsound self }
     {
@@ -19,7 +19,7 @@ impl CheckedEntry {
     }
 
     // The running state behind the objects, at multiplier 1. No From, which asks nothing: unsound words have no state.
-    #[tactic(auto, using(crate::proofs::Limits::words_in, crate::proofs::Sound::sound))]
+    #[tactic(auto, using(crate::proofs::Limits::counts_low, crate::proofs::Sound::sound))]
     pub fn state(self) -> OsuLegacyScoreSimulator
         requires { unsound self ≡ false }
         ensures { result ≡ state_in self }
@@ -35,6 +35,7 @@ impl CheckedEntry {
     }
 }
 
+// No shorter, since it names each word once, under another name.
 impl From<Entry> for NestedScorePerObject {
     ghost from_gives = { λ e r. r ≡ counts_in e };
 

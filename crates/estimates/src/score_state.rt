@@ -72,7 +72,7 @@ fn without_slider_acc(h: OsuHitResults, attrs: OsuDifficultyAttributes) -> f64
 pub fn accuracy(h: OsuHitResults, origin: OsuScoreOrigin, attrs: OsuDifficultyAttributes) -> f64
     ensures { result ≡ accuracy_of h origin attrs }
 {
-    // The two share one line: their sums stand in another order, with other weights.
+    // `with_slider_acc` and `without_slider_acc` share one line: their sums stand in another order, with other weights.
     match origin {
         OsuScoreOrigin::Stable => quotient(weight(h), full_weight(h)),
         OsuScoreOrigin::WithSliderAcc => with_slider_acc(h, attrs),

@@ -9,7 +9,7 @@ use lib.ListN.{length, drop, get_or}
 use lib.Dec.{ltb}
 use borrow.Author.Tests.{lt-ltb, le-ltb}
 use Rattle.std.proofs.lemmas.List.{length-map, get_or-map, get_or_append_left, get_or-append_right, get_or-drop}
-use Rattle.rules.specs.Refusals.{Checked, refused, good, pick, HEAT, OrRefusal, refusal_at, at_0, number_of}
+use Rattle.rules.specs.Refusals.{Checked, refused, good, ◌>>=◌, ◌>>◌, refuse◌when◌, OrRefusal, refusal_at, at_0, number_of}
 use Rattle.rules.specs.declared.refusal.Rule.{Rule}
 use Rattle.rules.proofs.Numbers.{number_above_0}
 use Rattle.rules.specs.Limits.{max_plays}
@@ -18,7 +18,7 @@ use Rattle.simulator.specs.Attributes.{score_attributes_at}
 use Rattle.simulator.specs.declared.attributes.ScoreAttributes.{ScoreAttributes}
 use Rattle.play_score.specs.PlayRules.{given_score}
 use Rattle.play_score.specs.declared.PlayScore.{PlayScore}
-use Rattle.scoring.specs.Scores.{Outcome, refusal, values, Scores, scores_of}
+use Rattle.scoring.specs.Scores.{Scores, scores_of}
 use Rattle.scoring.proofs.Rules.{IsRule, refusal_rule}
 use Rattle.host.specs.Play.{play_in}
 use Rattle.host.specs.Answer.{given_answer_of, single_of}
@@ -26,7 +26,7 @@ use Rattle.host.specs.declared.answer.PlayAnswer.{PlayAnswer}
 use Rattle.host.specs.declared.play.HostPlay.{HostPlay}
 use Rattle.host.specs.declared.status.Status.{Status}
 use Rattle.heat.specs.Heat.{counts_bad, start_of, heat_status_of, outcomes_of, heat_of}
-use Rattle.heat.proofs.Loop.{Fits, fits}
+use Rattle.heat.proofs.Loop.{begun_by, Fits, fits}
 
 -- ---- a list's images in front of what is left of another
 front_at : {A B : Type 0} (f : A → B) (ps : List A) (os : List B) (i : ℕ) (d : A) (e : B) → i < length ps → get_or (map f ps ++ os) i e ≡ f (get_or ps i d)
@@ -48,7 +48,7 @@ at_zero (refused number) = refl
 at_zero (good score) = refl
 
 module _ (s : List ℕ) (ps : List HostPlay) (os : List PlayAnswer) where
-  abbrev x : Outcome Scores
+  abbrev x : OrRefusal Scores
   x = scores_of (file_of s)
 
   abbrev begun : OrRefusal ScoreAttributes
@@ -58,16 +58,16 @@ module _ (s : List ℕ) (ps : List HostPlay) (os : List PlayAnswer) where
   left = heat_of x ps os
 
   pub heat_numbers : HeatNumber left.0.status
-  unfolding heat_of
+  unfolding heat_of ◌>>=◌ ◌>>◌ refuse◌when◌
   heat_numbers = go x refl
     where
-      by : (all : ScoreAttributes) (b : Bool) → HeatNumber (heat_status_of (pick b (refused (refusal_at HEAT 0)) (good all))).status
+      by : (all : ScoreAttributes) (b : Bool) → HeatNumber (heat_status_of (begun_by b all)).status
       by all true = of_counts
       by all false = none
 
-      go : (y : Outcome Scores) → x ≡ y → HeatNumber (heat_status_of (start_of y (length ps) (length os))).status
-      go (refusal n at) e = of_file n (refusal_rule s n at e)
-      go (values v) e = by _ (counts_bad (length ps) (length os))
+      go : (y : OrRefusal Scores) → x ≡ y → HeatNumber (heat_status_of (start_of y (length ps) (length os))).status
+      go (refused r) e = of_file r.rule (refusal_rule s r.rule r.offset e)
+      go (good v) e = by _ (counts_bad (length ps) (length os))
 
   -- "a refused call changes no lent memory"
   pub refused_heat_writes_nothing : 1 ≤ left.0.status → left.1 ≡ os
@@ -79,30 +79,30 @@ module _ (s : List ℕ) (ps : List HostPlay) (os : List PlayAnswer) where
       go (refused r) h = refl
 
   -- an input that breaks a rule gets its number: the file's, at its offset, whatever the plays are
-  pub refused_file_refuses_the_heat : (n : Rule) (at : ℕ) → x ≡ refusal n at → left.0 ≡ record { status = number_of n; offset = at }
-  unfolding heat_of
-  refused_file_refuses_the_heat n at e = ap (λ (y : Outcome Scores). heat_status_of (start_of y (length ps) (length os))) e
+  pub refused_file_refuses_the_heat : (n : Rule) (at : ℕ) → x ≡ refused (refusal_at n at) → left.0 ≡ record { status = number_of n; offset = at }
+  unfolding heat_of ◌>>=◌
+  refused_file_refuses_the_heat n at e = ap (λ (y : OrRefusal Scores). heat_status_of (start_of y (length ps) (length os))) e
 
   -- and one that breaks none gets none
-  pub heat_within_is_good : (v : Scores) → x ≡ values v → length ps ≤ 64 → length ps ≤ length os → left.0 ≡ record { status = 0; offset = 0 }
-  unfolding heat_of
+  pub heat_within_is_good : (v : Scores) → x ≡ good v → length ps ≤ 64 → length ps ≤ length os → left.0 ≡ record { status = 0; offset = 0 }
+  unfolding heat_of ◌>>=◌ ◌>>◌ refuse◌when◌
   heat_within_is_good v e few room =
-      ap (λ (y : Outcome Scores). heat_status_of (start_of y (length ps) (length os))) e ∙ simp (le-ltb max_plays (length ps) few, le-ltb (length os) (length ps) room)
+      ap (λ (y : OrRefusal Scores). heat_status_of (start_of y (length ps) (length os))) e ∙ simp (le-ltb max_plays (length ps) few, le-ltb (length os) (length ps) room)
 
   -- "15: more than 64 plays, or fewer outcomes than plays", with offset 0
-  pub more_than_64_plays_get_15 : (v : Scores) → x ≡ values v → 64 < length ps → left.0 ≡ record { status = 15; offset = 0 }
-  unfolding heat_of
+  pub more_than_64_plays_get_15 : (v : Scores) → x ≡ good v → 64 < length ps → left.0 ≡ record { status = 15; offset = 0 }
+  unfolding heat_of ◌>>=◌ ◌>>◌ refuse◌when◌
   more_than_64_plays_get_15 v e many =
-      ap (λ (y : Outcome Scores). heat_status_of (start_of y (length ps) (length os))) e ∙ simp (lt-ltb max_plays (length ps) many)
+      ap (λ (y : OrRefusal Scores). heat_status_of (start_of y (length ps) (length os))) e ∙ simp (lt-ltb max_plays (length ps) many)
 
-  pub fewer_outcomes_get_15 : (v : Scores) → x ≡ values v → length os < length ps → left.0 ≡ record { status = 15; offset = 0 }
-  unfolding heat_of
+  pub fewer_outcomes_get_15 : (v : Scores) → x ≡ good v → length os < length ps → left.0 ≡ record { status = 15; offset = 0 }
+  unfolding heat_of ◌>>=◌ ◌>>◌ refuse◌when◌
   fewer_outcomes_get_15 v e few =
-      ap (λ (y : Outcome Scores). heat_status_of (start_of y (length ps) (length os))) e ∙ by _ (ltb max_plays (length ps)) (ltb (length os) (length ps)) (lt-ltb (length os) (length ps) few)
+      ap (λ (y : OrRefusal Scores). heat_status_of (start_of y (length ps) (length os))) e ∙ by _ (ltb max_plays (length ps)) (ltb (length os) (length ps)) (lt-ltb (length os) (length ps) few)
     where
-      by : (all : ScoreAttributes) (b c : Bool) → c ≡ true → heat_status_of (pick (b || c) (refused (refusal_at HEAT 0)) (good all)) ≡ record { status = 15; offset = 0 }
+      by : (all : ScoreAttributes) (b c : Bool) → c ≡ true → heat_status_of (begun_by (b || c) all) ≡ record { status = 15; offset = 0 }
       by all true c e = refl
-      by all false c e = ap (λ (d : Bool). heat_status_of (pick d (refused (refusal_at HEAT 0)) (good all))) e
+      by all false c e = ap (λ (d : Bool). heat_status_of (begun_by d all)) e
 
   module _ (done : left.0.status ≡ 0) where
     -- no other heat is good
@@ -128,12 +128,12 @@ module _ (s : List ℕ) (ps : List HostPlay) (os : List PlayAnswer) where
 
     -- "with offset 0"
     pub each_outcome_at_zero : (i : ℕ) (p : HostPlay) (o : PlayAnswer) → i < length ps → (get_or left.1 i o).offset ≡ 0
-    unfolding heat_of single_of
+    unfolding heat_of single_of ◌>>=◌
     each_outcome_at_zero i p o l = ap (λ (a : PlayAnswer). a.offset) (each_play_as_alone i p o l) ∙ go x refl done
       where
-        go : (y : Outcome Scores) → x ≡ y → (heat_status_of (start_of y (length ps) (length os))).status ≡ 0 → (single_of y (get_or ps i p)).offset ≡ 0
-        go (refusal n at) e d = absurd (omega (arith, number_above_0 n, d))
-        go (values v) e d = at_zero (given_score (play_in (get_or ps i p)) (score_attributes_at v.map (play_in (get_or ps i p)).passed_objects))
+        go : (y : OrRefusal Scores) → x ≡ y → (heat_status_of (start_of y (length ps) (length os))).status ≡ 0 → (single_of y (get_or ps i p)).offset ≡ 0
+        go (refused r) e d = absurd (omega (arith, number_above_0 r.rule, d))
+        go (good v) e d = at_zero (given_score (play_in (get_or ps i p)) (score_attributes_at v.map (play_in (get_or ps i p)).passed_objects))
 
     -- "outcomes beyond the last play stay"
     pub outcomes_beyond_stay : (i : ℕ) (o : PlayAnswer) → length ps ≤ i → get_or left.1 i o ≡ get_or os i o

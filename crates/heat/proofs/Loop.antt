@@ -11,8 +11,8 @@ use lib.Seq.{take_all}
 use lib.Dec.{ltb}
 use borrow.Author.Tests.{ltb-false}
 use Rattle.rules.specs.Limits.{max_plays}
-use Rattle.rules.specs.Refusals.{pick, HEAT, OrRefusal, good, refused, refusal_at}
-use Rattle.rules.specs.declared.refusal.Rule.{Rule}
+use Rattle.rules.specs.Refusals.{pick, HEAT, OrRefusal, good, refused, ◌>>=◌, ◌>>◌, refuse◌when◌, refusal_at, at_0}
+use Rattle.rules.specs.declared.refusal.Refusal.{Refusal}
 use Rattle.records.specs.Objects.{Object}
 use Rattle.map_file.specs.File.{File, Map, Result, accepted, refused_at}
 use Rattle.simulator.specs.Attributes.{score_attributes_of, score_attributes_at}
@@ -20,14 +20,15 @@ use Rattle.simulator.specs.Nested.{no_object, counted_all}
 use Rattle.simulator.specs.declared.attributes.ScoreAttributes.{ScoreAttributes}
 use Rattle.simulator.proofs.Few.{count_is}
 use Rattle.map_reader.proofs.Passed.{attributes_passed}
-use Rattle.scoring.specs.Scores.{Outcome, refusal, values, then, Scores, play_scores, scores_of, map_score_of}
+use Rattle.play_score.specs.PlayRules.{given_score}
+use Rattle.scoring.specs.Scores.{Scores, play_scores, scores_of, map_score_of}
 use Rattle.play_score.specs.declared.PlayScore.{PlayScore}
 use Rattle.host.specs.Answer.{given_answer_of, single_of}
 use Rattle.host.specs.Play.{play_in}
 use Rattle.host.specs.declared.answer.PlayAnswer.{PlayAnswer}
 use Rattle.host.specs.declared.play.HostPlay.{HostPlay}
 use Rattle.host.specs.declared.status.Status.{Status}
-use Rattle.heat.specs.Heat.{counts_bad, start_by, start_of, heat_status_of, due_of, passed_of, score_by, one_of, outcomes_of, heat_of}
+use Rattle.heat.specs.Heat.{counts_bad, start_of, heat_status_of, due_of, passed_of, one_of, outcomes_of, heat_of}
 use Rattle.heat.proofs.Front.{front_more}
 
 -- ---- a heat that is not refused has at most 64 plays, and an outcome for each
@@ -38,15 +39,20 @@ IsReady (refused r) = ⊥
 abbrev pub Fits : OrRefusal ScoreAttributes → ℕ → ℕ → Type 0
 Fits s plays outcomes = IsReady s → (plays ≤ max_plays) × (plays ≤ outcomes)
 
-pub fits : (x : Outcome Scores) (n k : ℕ) → Fits (start_of x n k) n k
+-- the start on a good file
+abbrev pub begun_by : Bool → ScoreAttributes → OrRefusal ScoreAttributes
+begun_by bad all = at_0 ((refuse HEAT when bad) >> good all)
+
+pub fits : (x : OrRefusal Scores) (n k : ℕ) → Fits (start_of x n k) n k
+unfolding ◌>>=◌ ◌>>◌ refuse◌when◌
 fits x n k = by (map_score_of x)
   where
-    go : (all : ScoreAttributes) (b c : Bool) → ltb max_plays n ≡ b → ltb k n ≡ c → Fits (pick (b || c) (refused (refusal_at HEAT 0)) (good all)) n k
+    go : (all : ScoreAttributes) (b c : Bool) → ltb max_plays n ≡ b → ltb k n ≡ c → Fits (begun_by (b || c) all) n k
     go all true c p q d = absurd d
     go all false true p q d = absurd d
     go all false false p q d = (ltb-false max_plays n p, ltb-false k n q)
 
-    by : (m : OrRefusal ScoreAttributes) → Fits (start_by m n k) n k
+    by : (m : OrRefusal ScoreAttributes) → Fits (m >>= begun_by (counts_bad n k)) n k
     by (good all) d = go all (ltb max_plays n) (ltb k n) refl refl d
     by (refused r) d = absurd d
 
@@ -73,19 +79,20 @@ passed_is f p = go (ltb p all.object_count) refl
 
 -- where a play is due the file's plays are all good, and its answer is what the single call gives
 module _ (n k i : ℕ) (p : HostPlay) where
-  abbrev Due : Outcome Scores → Type 0
+  abbrev Due : OrRefusal Scores → Type 0
   Due x = i < due_of (start_of x n k) n
 
-  abbrev Same : Result → Outcome Scores → Type 0
+  abbrev Same : Result → OrRefusal Scores → Type 0
   Same f x = one_of f (start_of x n k) p ≡ single_of x p
 
-  refused_none : (number : Rule) (offset : ℕ) (y : Outcome (List PlayScore)) → Due (then y (λ ss. refusal number offset)) → ⊥
-  refused_none number offset (refusal m at) d = omega (arith, d)
-  refused_none number offset (values ss) d = omega (arith, d)
+  refused_none : (r : Refusal) (y : OrRefusal (List PlayScore)) → Due (y >> refused r) → ⊥
+  unfolding ◌>>=◌ ◌>>◌
+  refused_none r (refused q) d = omega (arith, d)
+  refused_none r (good ss) d = omega (arith, d)
 
   one_is : (f : Result) → Due (scores_of f) → Same f (scores_of f)
-  unfolding single_of
-  one_is (refused_at number offset f) d = absurd (refused_none number offset (play_scores f.map f.plays) d)
+  unfolding single_of ◌>>=◌ ◌>>◌ refuse◌when◌
+  one_is (refused_at number offset f) d = absurd (refused_none (refusal_at number offset) (play_scores f.map f.plays) d)
   one_is (accepted f) d = go (play_scores f.map f.plays) d
     where
       all : ScoreAttributes
@@ -94,30 +101,27 @@ module _ (n k i : ℕ) (p : HostPlay) where
       scored : List PlayScore → Scores
       scored ss = record { map = f.map; plays = ss }
 
-      start_of_lem : Bool → OrRefusal ScoreAttributes
-      start_of_lem b = pick b (refused (refusal_at HEAT 0)) (good all)
-
-      by : (ss : List PlayScore) (b : Bool) → i < due_of (start_of_lem b) n → one_of (accepted f) (start_of_lem b) p ≡ single_of (values (scored ss)) p
+      by : (ss : List PlayScore) (b : Bool) → i < due_of (begun_by b all) n → one_of (accepted f) (begun_by b all) p ≡ single_of (good (scored ss)) p
       by ss true d = absurd (omega (arith, d))
-      by ss false d = ap (λ (m : OrRefusal ScoreAttributes). given_answer_of (score_by (play_in p) m)) (passed_is f (play_in p).passed_objects)
+      by ss false d = ap (λ (m : OrRefusal ScoreAttributes). given_answer_of (m >>= λ a. at_0 (given_score (play_in p) a))) (passed_is f (play_in p).passed_objects)
 
-      go : (y : Outcome (List PlayScore)) → Due (then y (λ ss. values (scored ss))) → Same (accepted f) (then y (λ ss. values (scored ss)))
-      go (refusal m at) d = absurd (omega (arith, d))
-      go (values ss) d = by ss (counts_bad n k) d
+      go : (y : OrRefusal (List PlayScore)) → Due (y >>= λ ss. good (scored ss)) → Same (accepted f) (y >>= λ ss. good (scored ss))
+      go (refused r) d = absurd (omega (arith, d))
+      go (good ss) d = by ss (counts_bad n k) d
 
 -- ---- the loop, on the lists that it is lent
 -- the outcomes behind the first i plays
-pub outcomes_after : Outcome Scores → List HostPlay → List PlayAnswer → ℕ → List PlayAnswer
+pub outcomes_after : OrRefusal Scores → List HostPlay → List PlayAnswer → ℕ → List PlayAnswer
 outcomes_after x ps os i = map (single_of x) (take i ps) ++ drop i os
 
-pub none_yet : (x : Outcome Scores) (ps : List HostPlay) (os : List PlayAnswer) → os ≡ outcomes_after x ps os 0
+pub none_yet : (x : OrRefusal Scores) (ps : List HostPlay) (os : List PlayAnswer) → os ≡ outcomes_after x ps os 0
 unfolding outcomes_after
 none_yet x ps os = refl
 
 -- from a start that is the heat's, with d plays that are due
 module _ (f : Result) (ps : List HostPlay) (os : List PlayAnswer) (s : OrRefusal ScoreAttributes) (is : s ≡ start_of (scores_of f) (length ps) (length os))
     (d : ℕ) (due : d ≡ due_of s (length ps)) where
-  abbrev x : Outcome Scores
+  abbrev x : OrRefusal Scores
   x = scores_of f
 
   room : Fits s (length ps) (length os)

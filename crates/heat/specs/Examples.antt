@@ -2,7 +2,7 @@
 use Rattle.std.specs.Prelude.{ℕ, ◌≡◌, refl, List, [], ◌∷◌, ◌++◌, map, replicate, Float}
 use Rattle.std.specs.Float.{binary32, binary64}
 use Rattle.std.specs.Float.Ieee.{of_bits, lt, le, eq}
-use Rattle.rules.specs.Refusals.{◌>>◌, refuse◌when◌, RANGE}
+use Rattle.rules.specs.Refusals.{◌>>=◌, ◌>>◌, refuse◌when◌, OrRefusal, good, refused, refusal_at, RANGE}
 use Rattle.records.specs.Objects.{circle, slider, tick, repeat}
 use Rattle.play_state.specs.Play.{flags_bad}
 use Rattle.simulator.specs.Attributes.{difficulty_attributes_of, score_attributes_of, score_attributes_at}
@@ -10,7 +10,7 @@ use Rattle.simulator.specs.Hits.{hits_of}
 use Rattle.simulator.specs.Nested.{counted, counted_all}
 use Rattle.simulator.specs.Walk.{walk, after}
 use Rattle.play_score.specs.PlayRules.{mods_bad, exceeds, hits_exceed, play_score, given_score}
-use Rattle.scoring.specs.Scores.{Outcome, refusal, values, Scores}
+use Rattle.scoring.specs.Scores.{Scores}
 use Rattle.host.specs.Answer.{play_answer_without, single_of}
 use Rattle.host.specs.declared.answer.PlayAnswer.{PlayAnswer}
 use Rattle.host.specs.declared.play.HostPlay.{HostPlay}
@@ -20,8 +20,8 @@ abbrev five : Float
 five = of_bits binary32 0x40a0_0000
 
 -- settings 5; a circle, a slider with tick, repeat and tick, and a circle: combo 1, 6 and 7
-abbrev file : Outcome Scores
-file = values record {
+abbrev file : OrRefusal Scores
+file = good record {
   map = record {
     settings = record { hp = five; od = five; cs = five };
     breaks = [];
@@ -67,11 +67,11 @@ told a = (a.status, a.offset, a.attributes.object_count, a.attributes.max_combo)
 abbrev Left : Type 0
 Left = (ℕ × ℕ) × List Told
 
-abbrev heat : Outcome Scores → List HostPlay → List PlayAnswer → Left
+abbrev heat : OrRefusal Scores → List HostPlay → List PlayAnswer → Left
 heat x plays outcomes = let r = heat_of x plays outcomes in ((r.0.status, r.0.offset), map told r.1)
 
 abbrev Row : Type 0
-Row = Outcome Scores × List HostPlay × List PlayAnswer × Left
+Row = OrRefusal Scores × List HostPlay × List PlayAnswer × Left
 
 heats : List Row
 heats =
@@ -95,10 +95,10 @@ heats =
     -- ".. before any play", of which the first would be refused
     ∷ (file, replicate 2 (play 3 4 0), old 1 ∷ [], ((15, 0), (99, 1, 0, 0) ∷ []))
     -- "after the map": a file's refusal keeps its offset, with a good list of plays and with one of 65
-    ∷ (refusal RANGE 14, replicate 1 (play 3 3 0), old 1 ∷ [], ((4, 14), (99, 1, 0, 0) ∷ []))
-    ∷ (refusal RANGE 14, replicate 65 (play 3 3 0), old 1 ∷ [], ((4, 14), (99, 1, 0, 0) ∷ []))
+    ∷ (refused (refusal_at RANGE 14), replicate 1 (play 3 3 0), old 1 ∷ [], ((4, 14), (99, 1, 0, 0) ∷ []))
+    ∷ (refused (refusal_at RANGE 14), replicate 65 (play 3 3 0), old 1 ∷ [], ((4, 14), (99, 1, 0, 0) ∷ []))
     ∷ []
 
 heats_left : map (λ (r : Row). heat r.0 r.1 r.2) heats ≡ map (λ (r : Row). r.3) heats
-unfolding heats heat_of single_of given_score mods_bad flags_bad play_score exceeds hits_exceed score_attributes_at score_attributes_of difficulty_attributes_of after walk hits_of counted_all counted ◌>>◌ refuse◌when◌ of_bits lt le eq
+unfolding heats heat_of single_of given_score mods_bad flags_bad play_score exceeds hits_exceed score_attributes_at score_attributes_of difficulty_attributes_of after walk hits_of counted_all counted ◌>>=◌ ◌>>◌ refuse◌when◌ of_bits lt le eq
 heats_left = refl

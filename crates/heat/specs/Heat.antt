@@ -2,14 +2,14 @@
 -- outcomes, and gets for each play what a single call without factors gives, its refusal included, with offset 0; outcomes beyond the last play stay."
 use Rattle.std.specs.Prelude.{ℕ, Bool, ◌||◌, List, map, ◌++◌, length, drop, ltb}
 use Rattle.rules.specs.Limits.{max_plays}
-use Rattle.rules.specs.Refusals.{OrRefusal, good, refused, refusal_at, at_0, pick, HEAT}
+use Rattle.rules.specs.Refusals.{OrRefusal, good, refused, ◌>>=◌, ◌>>◌, refuse◌when◌, at_0, pick, HEAT}
 use Rattle.play_state.specs.declared.Play.{Play}
 use Rattle.map_file.specs.File.{Result}
 use Rattle.simulator.specs.declared.attributes.ScoreAttributes.{ScoreAttributes}
 use Rattle.play_reader.specs.View.{simulated_of}
 use Rattle.play_score.specs.PlayRules.{given_score}
 use Rattle.play_score.specs.declared.PlayScore.{PlayScore}
-use Rattle.scoring.specs.Scores.{Outcome, Scores, map_score_of}
+use Rattle.scoring.specs.Scores.{Scores, map_score_of}
 use Rattle.host.specs.Play.{play_in}
 use Rattle.host.specs.Answer.{given_answer_of, single_of}
 use Rattle.host.specs.declared.answer.PlayAnswer.{PlayAnswer}
@@ -22,24 +22,24 @@ abbrev pub counts_bad : ℕ → ℕ → Bool
 counts_bad plays outcomes = ltb max_plays plays || ltb outcomes plays
 
 -- "after the map, before any play": the file's number at its offset, then 15, whose offset is 0; else the attributes of all objects
-abbrev pub start_by : OrRefusal ScoreAttributes → ℕ → ℕ → OrRefusal ScoreAttributes
-start_by (refused r) plays outcomes = refused r
-start_by (good all) plays outcomes = pick (counts_bad plays outcomes) (refused (refusal_at HEAT 0)) (good all)
-
-abbrev pub start_of : Outcome Scores → ℕ → ℕ → OrRefusal ScoreAttributes
-start_of x plays outcomes = start_by (map_score_of x) plays outcomes
+abbrev pub start_of : OrRefusal Scores → ℕ → ℕ → OrRefusal ScoreAttributes
+start_of x plays outcomes = do
+  all ← map_score_of x
+  at_0 do
+    refuse HEAT when counts_bad plays outcomes
+    good all
 
 -- of the call: a refused play is no refused call
 abbrev pub heat_status_of : OrRefusal ScoreAttributes → Status
 heat_status_of = status_of
 
 -- "for each play what a single call without factors gives, its refusal included": `single_of`, the answer of `pjp_score_play`; "outcomes beyond the last play stay", and where the call is refused all of them do
-abbrev pub outcomes_of : OrRefusal ScoreAttributes → Outcome Scores → List HostPlay → List PlayAnswer → List PlayAnswer
+abbrev pub outcomes_of : OrRefusal ScoreAttributes → OrRefusal Scores → List HostPlay → List PlayAnswer → List PlayAnswer
 outcomes_of (good all) x plays outcomes = map (single_of x) plays ++ drop (length plays) outcomes
 outcomes_of (refused r) x plays outcomes = outcomes
 
 -- the status of the call, and the outcomes that it leaves
-unfoldable pub heat_of : Outcome Scores → List HostPlay → List PlayAnswer → Status × List PlayAnswer
+unfoldable pub heat_of : OrRefusal Scores → List HostPlay → List PlayAnswer → Status × List PlayAnswer
 heat_of x plays outcomes =
     let s : OrRefusal ScoreAttributes = start_of x (length plays) (length outcomes) in (heat_status_of s, outcomes_of s x plays outcomes)
 
@@ -53,13 +53,11 @@ due_of (refused r) plays = 0
 abbrev pub passed_of : Result → ScoreAttributes → ℕ → OrRefusal ScoreAttributes
 passed_of f all passed = pick (ltb passed all.object_count) (simulated_of f passed) (good all)
 
-abbrev pub score_by : Play → OrRefusal ScoreAttributes → OrRefusal PlayScore
-score_by p (refused r) = refused r
-score_by p (good a) = at_0 (given_score p a)
-
 abbrev pub score_one : Result → OrRefusal ScoreAttributes → Play → OrRefusal PlayScore
-score_one f (refused r) p = refused r
-score_one f (good all) p = score_by p (passed_of f all p.passed_objects)
+score_one f start p = do
+  all ← start
+  passed ← passed_of f all p.passed_objects
+  at_0 (given_score p passed)
 
 abbrev pub one_of : Result → OrRefusal ScoreAttributes → HostPlay → PlayAnswer
 one_of f start p = given_answer_of (score_one f start (play_in p))

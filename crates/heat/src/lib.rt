@@ -29,6 +29,7 @@ fn has_bad_counts(plays: usize, outcomes: usize) -> bool
 }
 
 // The file, then 15.
+#[tactic(auto, using(rules::proofs::Steps::steps))]
 pub fn heat_start(file: &[u8], plays: usize, outcomes: usize) -> HeatStart
     ensures { result ≡ start_of (scores_of (file_of file.now)) plays outcomes }
 {
@@ -63,6 +64,7 @@ fn passed_of(file: &[u8], all: ScoreAttributes, passed: u64) -> Result<ScoreAttr
 }
 
 // The score of one play: from its passed objects on it goes the single call's way.
+#[tactic(auto, using(rules::proofs::Steps::steps))]
 fn score_one(file: &[u8], start: HeatStart, play: Play) -> Result<PlayScore, Refusal>
     ensures { result ≡ score_one (file_of file.now) start play }
 {

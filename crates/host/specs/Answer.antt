@@ -7,7 +7,7 @@ use Rattle.numbers.specs.Floats.{whole}
 use Rattle.simulator.specs.declared.attributes.ScoreAttributes.{ScoreAttributes}
 use Rattle.estimates.specs.declared.calculator.Estimates.{Estimates}
 use Rattle.play_score.specs.declared.PlayScore.{PlayScore}
-use Rattle.scoring.specs.Scores.{Outcome, Scores, given_play_of}
+use Rattle.scoring.specs.Scores.{Scores, given_play_of}
 use Rattle.host.specs.Play.{play_in}
 use Rattle.host.specs.declared.play.HostPlay.{HostPlay}
 use Rattle.host.specs.declared.answer.HostAttributes.{HostAttributes}
@@ -90,7 +90,7 @@ given_answer_of (good s) = play_answer_in s
 given_answer_of (refused r) = play_answer_refused r
 
 -- "a single call without factors" (02, §2): a play that is given beside a file
-unfoldable pub single_of : Outcome Scores → HostPlay → PlayAnswer
+unfoldable pub single_of : OrRefusal Scores → HostPlay → PlayAnswer
 single_of x p = given_answer_of (given_play_of (play_in p) x)
 
 -- of a play in a file: 255, which is no number of document 01, where the file is accepted and has no play at the index

@@ -1,7 +1,7 @@
 // The values of a map and of a play, flat: an answer's status is 0, or the number of its refusal at the offset, with every value 0.
-ghost use Rattle.std.specs.Prelude.{◌≡◌};
+ghost use Rattle.std.specs.Prelude.{◌≡◌, Ok, Err};
 ghost use Rattle.host.specs.Answer.{host_attributes, host_estimates};
-ghost use Rattle.host.specs.Answer.{map_answer_of, play_answer_in, play_answer_without, play_answer_refused, given_answer_of, listed_answer_of};
+ghost use Rattle.host.specs.Answer.{map_answer_of, play_answer_in, play_answer_refused, given_answer_of, listed_answer_of};
 
 use estimates::calculator::Estimates;
 use play_score::PlayScore;
@@ -40,7 +40,7 @@ pub struct HostEstimates {
 }
 
 #[repr(C)]
-#[derive(Clone, Copy)]
+#[derive(Clone, Copy, Default)]
 pub struct MapAnswer {
     pub status: u8,
     pub offset: usize,
@@ -48,7 +48,7 @@ pub struct MapAnswer {
 }
 
 #[repr(C)]
-#[derive(Clone, Copy)]
+#[derive(Clone, Copy, Default)]
 pub struct PlayAnswer {
     pub status: u8,
     pub offset: usize,
@@ -99,23 +99,35 @@ impl From<Estimates> for HostEstimates {
 }
 
 // The attributes of a map.
+impl From<ScoreAttributes> for MapAnswer {
+    ghost from_gives = { λ a r. r ≡ map_answer_of (Ok a) };
+
+    fn from(a: ScoreAttributes) -> MapAnswer {
+        MapAnswer {
+            attributes: a.into(),
+            ..MapAnswer::default()
+        }
+    }
+}
+
+impl From<Refusal> for MapAnswer {
+    ghost from_gives = { λ refusal r. r ≡ map_answer_of (Err refusal) };
+
+    #[tactic(auto, unfolding(numbers::proofs::Literals::of_bits, numbers::proofs::Literals::of_int))]
+    fn from(refusal: Refusal) -> MapAnswer {
+        MapAnswer {
+            status: refusal.rule.into(),
+            offset: refusal.offset,
+            ..MapAnswer::default()
+        }
+    }
+}
+
 impl From<Result<ScoreAttributes, Refusal>> for MapAnswer {
     ghost from_gives = { λ score r. r ≡ map_answer_of score };
 
-    #[tactic(auto, unfolding(numbers::proofs::Literals::of_bits, numbers::proofs::Literals::of_int))]
     fn from(score: Result<ScoreAttributes, Refusal>) -> MapAnswer {
-        match score {
-            Ok(a) => MapAnswer {
-                status: 0,
-                offset: 0,
-                attributes: a.into(),
-            },
-            Err(refusal) => MapAnswer {
-                status: refusal.rule.into(),
-                offset: refusal.offset,
-                attributes: HostAttributes::default(),
-            },
-        }
+        score.map_or_else(MapAnswer::from, MapAnswer::from)
     }
 }
 
@@ -124,31 +136,39 @@ impl From<PlayScore> for PlayAnswer {
 
     fn from(score: PlayScore) -> PlayAnswer {
         PlayAnswer {
-            status: 0,
-            offset: 0,
             attributes: score.attributes.into(),
             estimates: score.estimates.into(),
+            ..PlayAnswer::default()
         }
     }
 }
 
-#[tactic(auto, unfolding(numbers::proofs::Literals::of_bits, numbers::proofs::Literals::of_int))]
-fn play_answer_without(status: u8, offset: usize) -> PlayAnswer
-    ensures { result ≡ play_answer_without status offset }
-{
-    PlayAnswer {
-        status,
-        offset,
-        attributes: HostAttributes::default(),
-        estimates: HostEstimates::default(),
+// Of a play in a file, where it may have none at the index.
+impl From<Option<PlayScore>> for PlayAnswer {
+    ghost from_gives = { λ play r. r ≡ listed_answer_of (Ok play) };
+
+    #[tactic(auto, unfolding(numbers::proofs::Literals::of_bits, numbers::proofs::Literals::of_int))]
+    fn from(play: Option<PlayScore>) -> PlayAnswer {
+        match play {
+            Some(score) => score.into(),
+            None => PlayAnswer {
+                status: NO_PLAY,
+                ..PlayAnswer::default()
+            },
+        }
     }
 }
 
 impl From<Refusal> for PlayAnswer {
     ghost from_gives = { λ refusal r. r ≡ play_answer_refused refusal };
 
+    #[tactic(auto, unfolding(numbers::proofs::Literals::of_bits, numbers::proofs::Literals::of_int))]
     fn from(refusal: Refusal) -> PlayAnswer {
-        play_answer_without(refusal.rule.into(), refusal.offset)
+        PlayAnswer {
+            status: refusal.rule.into(),
+            offset: refusal.offset,
+            ..PlayAnswer::default()
+        }
     }
 }
 
@@ -157,10 +177,7 @@ impl From<Result<PlayScore, Refusal>> for PlayAnswer {
     ghost from_gives = { λ play r. r ≡ given_answer_of play };
 
     fn from(play: Result<PlayScore, Refusal>) -> PlayAnswer {
-        match play {
-            Ok(score) => score.into(),
-            Err(refusal) => refusal.into(),
-        }
+        play.map_or_else(PlayAnswer::from, PlayAnswer::from)
     }
 }
 
@@ -169,10 +186,6 @@ impl From<Result<Option<PlayScore>, Refusal>> for PlayAnswer {
     ghost from_gives = { λ play r. r ≡ listed_answer_of play };
 
     fn from(play: Result<Option<PlayScore>, Refusal>) -> PlayAnswer {
-        match play {
-            Ok(Some(score)) => score.into(),
-            Ok(None) => play_answer_without(NO_PLAY, 0),
-            Err(refusal) => refusal.into(),
-        }
+        play.map_or_else(PlayAnswer::from, PlayAnswer::from)
     }
 }

@@ -8,7 +8,7 @@ use rules::refusal::Rule;
 use slider_breaks::calculator::{SliderBreaks, SliderFactors, slider_breaks};
 use slider_breaks::has_bad_factors;
 
-// The fields of `PlayAnswer`, and the slider breaks.
+// The fields of `PlayAnswer`, and the slider breaks: flat, as C has them.
 #[repr(C)]
 #[derive(Clone, Copy)]
 pub struct BreaksAnswer {

@@ -8,7 +8,7 @@ use rules::refusal::Refusal;
 
 // The status is 0, or the number of the refusal at the offset, with no value.
 #[repr(C)]
-#[derive(Clone, Copy)]
+#[derive(Clone, Copy, Default)]
 pub struct MapInfo {
     pub status: u8,
     pub offset: usize,
@@ -22,11 +22,10 @@ impl From<Reader> for MapInfo {
 
     fn from(reader: Reader) -> MapInfo {
         MapInfo {
-            status: 0,
-            offset: 0,
             settings: reader.settings,
             breaks: reader.counts.breaks,
             objects: reader.counts.objects,
+            ..MapInfo::default()
         }
     }
 }
@@ -38,9 +37,7 @@ impl From<Refusal> for MapInfo {
         MapInfo {
             status: refusal.rule.into(),
             offset: refusal.offset,
-            settings: Settings::default(),
-            breaks: 0,
-            objects: 0,
+            ..MapInfo::default()
         }
     }
 }
@@ -49,9 +46,6 @@ impl From<Result<Reader, Refusal>> for MapInfo {
     ghost from_gives = { λ answer r. r ≡ map_info_of answer };
 
     fn from(answer: Result<Reader, Refusal>) -> MapInfo {
-        match answer {
-            Ok(reader) => reader.into(),
-            Err(refusal) => refusal.into(),
-        }
+        answer.map_or_else(MapInfo::from, MapInfo::from)
     }
 }

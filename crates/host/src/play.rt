@@ -63,7 +63,7 @@ impl From<HostPlay> for Play {
 
     fn from(p: HostPlay) -> Play {
         let origin = OsuScoreOrigin::try_from(u64::from(p.origin));
-        let score = score_of(p.has_score as u64, p.score);
+        let score = score_of(u64::from(p.has_score), p.score);
         match (origin, score) {
             (Ok(origin), Some(score)) => play_with(p, origin, score, p.flags),
             _ => bad_play(p),

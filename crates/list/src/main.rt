@@ -41,6 +41,7 @@ fn read_some<R: Read>(reader: &mut R, space: &mut [u8], at: usize) -> io::Result
 
 // Reads until the input ends or the space is full, and returns how many bytes it put at the front of the space. A proved loop has to end, and nothing
 // says that an input does: no run uses these turns up, and one that did would count as a failed read.
+#[tactic(auto, using(crate::proofs::Fronts::front_grows))]
 fn read_input<R: Read>(reader: &mut R, space: &mut [u8]) -> io::Result<usize>
     ensures within { IfOk result (λ count. count ≤ length space.old) }
     ensures bytes { IfOk result (λ count.

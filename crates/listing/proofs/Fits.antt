@@ -1,6 +1,7 @@
 -- The listing of any input leaves room in the program's space: a line is short, a play takes 44 bytes of the input, and a longer input than 65,536
 -- bytes gets one line. Assumes nothing.
 use Rattle.rules.specs.declared.refusal.Rule.{Rule}
+use Rattle.rules.specs.declared.refusal.Refusal.{Refusal}
 use Rattle.std.specs.Prelude.{Some, is_none}
 use mathlib.Core.Path.{◌≡◌, refl, ap, ◌∙◌, subst}
 use mathlib.Core.Bool.{Bool, true, false}
@@ -11,7 +12,7 @@ use borrow.Author.Tests.{ltb-false, lt-ltb}
 use lib.Dec.{ltb}
 use lib.ListN.{length, take, length-append, length-drop}
 use Rattle.rules.specs.Limits.{max_objects}
-use Rattle.rules.specs.Refusals.{Checked, good, refused, refusal_at, pick, MARK, INPUT}
+use Rattle.rules.specs.Refusals.{Checked, good, refused, ◌>>=◌, ◌>>◌, OrRefusal, refusal_at, pick, MARK, INPUT, at_offset}
 use Rattle.records.specs.Objects.{Object}
 use Rattle.records.specs.Records.{Content, header, break, object, play, FoundRecord}
 use Rattle.map_file.specs.File.{Map, File, Result, accepted, refused_at, with_record, follow, ended, file_from, nothing_read, file_of}
@@ -28,7 +29,7 @@ use Rattle.simulator.specs.View.{times}
 use Rattle.simulator.proofs.Bounds.{product_fits}
 use Rattle.simulator.proofs.Few.{each_few, passed-within, passed_counted}
 use Rattle.simulator.proofs.Walks.{after-times, fresh-times}
-use Rattle.scoring.specs.Scores.{Outcome, refusal, values, at_offset, then, Scores, play_score_on, play_scores, scores_of}
+use Rattle.scoring.specs.Scores.{Scores, play_score_on, play_scores, scores_of}
 use Rattle.play_score.specs.declared.PlayScore.{PlayScore}
 use Rattle.scoring.proofs.Answers.{no_number, values_within}
 use Rattle.lines.specs.Lines.{refused_line}
@@ -114,37 +115,41 @@ unfolding file_of
 held_file s = held_from (suc (length s)) s nothing_read (record { inside = omega arith; plays = omega arith; offsets = no_more })
 
 -- ---- so a refusal's offset lies within the file, and the scores are as many as the plays
-data HeldScores (s : List ℕ) (count : ℕ) : Outcome (List PlayScore) → Type 0 where
-  some : {ss : List PlayScore} → length ss ≡ count → HeldScores s count (values ss)
-  stop : {n : Rule} {at : ℕ} → at ≤ length s → HeldScores s count (refusal n at)
+data HeldScores (s : List ℕ) (count : ℕ) : OrRefusal (List PlayScore) → Type 0 where
+  some : {ss : List PlayScore} → length ss ≡ count → HeldScores s count (good ss)
+  stop : {r : Refusal} → r.offset ≤ length s → HeldScores s count (refused r)
 
 held_scores : (s : List ℕ) (m : Map) (ps : List (ℕ × Play)) → Each (λ (p : ℕ × Play). p.0 ≤ length s) ps → HeldScores s (length ps) (play_scores m ps)
-unfolding play_scores
+unfolding play_scores ◌>>=◌
 held_scores s m [] w = some refl
 held_scores s m (p ∷ ps) (one h w) = go (play_score_on m p.1) (play_scores m ps) (held_scores s m ps w)
   where
-    go : (x : Checked PlayScore) (y : Outcome (List PlayScore)) → HeldScores s (length ps) y
-        → HeldScores s (suc (length ps)) (then (at_offset p.0 x) (λ t. then y (λ ts. values (t ∷ ts))))
+    go : (x : Checked PlayScore) (y : OrRefusal (List PlayScore)) → HeldScores s (length ps) y
+        → HeldScores s (suc (length ps)) (at_offset p.0 x >>= λ t. y >>= λ ts. good (t ∷ ts))
     go (refused n) y k = stop h
-    go (good t) (refusal n at) (stop le) = stop le
-    go (good t) (values ts) (some e) = some (ap suc e)
+    go (good t) (refused r) (stop le) = stop le
+    go (good t) (good ts) (some e) = some (ap suc e)
 
-refusal_inside : (s : List ℕ) (n : Rule) (at : ℕ) → scores_of (file_of s) ≡ refusal n at → at ≤ length s
-refusal_inside s n at e = go (file_of s) (held_file s) e
+refusal_inside : (s : List ℕ) (r : Refusal) → scores_of (file_of s) ≡ refused r → r.offset ≤ length s
+unfolding ◌>>=◌ ◌>>◌
+refusal_inside s r e = go (file_of s) (held_file s) e
   where
-    scores : (x : Outcome (List PlayScore)) (c : ℕ) (y : List PlayScore → Outcome Scores) → HeldScores s c x → then x y ≡ refusal n at
-        → ((ss : List PlayScore) → y ss ≡ refusal n at → at ≤ length s) → at ≤ length s
-    scores (refusal k o) c y (stop h) e rest = let same : o ≡ at = cc in subst (λ (a : ℕ). a ≤ length s) same h
-    scores (values ss) c y k e rest = rest ss e
+    same : {q : Refusal} → ◌≡◌ {A = OrRefusal Scores} (refused q) (refused r) → q.offset ≤ length s → r.offset ≤ length s
+    same {q} e h = let is : q ≡ r = cc in subst (λ (a : Refusal). a.offset ≤ length s) is h
 
-    go : (r : Result) → HeldFile s r → scores_of r ≡ refusal n at → at ≤ length s
-    go (accepted f) (whole k) e =
-        scores (play_scores f.map f.plays) _ _ (held_scores s f.map f.plays k.offsets) e (λ ss q. never (cc))
-    go (refused_at m o f) (part h k) e =
-        scores (play_scores f.map f.plays) _ _ (held_scores s f.map f.plays k.offsets) e
-        (λ ss q. (let same : o ≡ at = cc in subst (λ (a : ℕ). a ≤ length s) same h))
+    good_lem : (m : Map) (c : ℕ) (x : OrRefusal (List PlayScore)) → HeldScores s c x → ◌≡◌ {A = OrRefusal Scores} (x >>= λ ss. good (record { map = m; plays = ss })) (refused r) → r.offset ≤ length s
+    good_lem m c (refused q) (stop h) e = same e h
+    good_lem m c (good ss) k e = never (cc)
 
-few_plays : (s : List ℕ) (sc : Scores) → scores_of (file_of s) ≡ values sc → 44 * length sc.plays ≤ length s
+    refused_lem : (q : Refusal) → q.offset ≤ length s → (c : ℕ) (x : OrRefusal (List PlayScore)) → HeldScores s c x → ◌≡◌ {A = OrRefusal Scores} (x >> refused q) (refused r) → r.offset ≤ length s
+    refused_lem q at c (refused p) (stop h) e = same e h
+    refused_lem q at c (good ss) k e = same e at
+
+    go : (f : Result) → HeldFile s f → scores_of f ≡ refused r → r.offset ≤ length s
+    go (accepted f) (whole k) e = good_lem f.map _ (play_scores f.map f.plays) (held_scores s f.map f.plays k.offsets) e
+    go (refused_at m o f) (part h k) e = refused_lem (refusal_at m o) h _ (play_scores f.map f.plays) (held_scores s f.map f.plays k.offsets) e
+
+few_plays : (s : List ℕ) (sc : Scores) → scores_of (file_of s) ≡ good sc → 44 * length sc.plays ≤ length s
 few_plays s sc e =
     let k = no_number s sc e in
     let held = out (subst (HeldFile s) k.read (held_file s)) in
@@ -154,7 +159,7 @@ few_plays s sc e =
     out : {f : File} → HeldFile s (accepted f) → Held s f
     out (whole k) = k
 
-    counted : {c : ℕ} {ss : List PlayScore} → HeldScores s c (values ss) → length ss ≡ c
+    counted : {c : ℕ} {ss : List PlayScore} → HeldScores s c (good ss) → length ss ≡ c
     counted (some e) = e
 
 -- ---- the text
@@ -170,12 +175,12 @@ text_short : (s : List ℕ) → length s ≤ 65536 → length (file_text s) < 26
 unfolding file_text
 text_short s h = go (scores_of (file_of s)) refl
   where
-    go : (x : Outcome Scores) → scores_of (file_of s) ≡ x → length (text_of x) < 262144
-    go (refusal n at) e =
-        let inside = refusal_inside s n at e in
-        let line = length-refused_line (refusal_at n at) (omega (arith, inside, h)) in
+    go : (x : OrRefusal Scores) → scores_of (file_of s) ≡ x → length (text_of x) < 262144
+    go (refused r) e =
+        let inside = refusal_inside s r e in
+        let line = length-refused_line r (omega (arith, inside, h)) in
         omega (arith, line)
-    go (values sc) e =
+    go (good sc) e =
         let few = few_plays s sc e in
         let first = length-map_line _ (words sc.map (length sc.map.objects) (values_within s sc e)) in
         let rest = lines_short 0 sc.plays (omega (arith, few, h)) in

@@ -1,6 +1,6 @@
 -- From what the check of a file's plays answered to the text of the file.
 use Rattle.rules.specs.declared.refusal.Refusal.{Refusal}
-use Rattle.rules.specs.Refusals.{good, refused}
+use Rattle.rules.specs.Refusals.{good, refused, ◌>>=◌, OrRefusal}
 use mathlib.Core.Path.{◌≡◌, refl, sym, ap, ◌∙◌}
 use mathlib.Core.List.{List, ◌++◌}
 use Prim.Native.Nat.{ℕ, ◌+◌, ◌≤◌, min}
@@ -18,16 +18,17 @@ use Rattle.map_file.specs.File.{file_of}
 use Rattle.simulator.specs.Attributes.{score_attributes_at}
 use Rattle.simulator.specs.declared.attributes.ScoreAttributes.{ScoreAttributes}
 use Rattle.map_reader.specs.declared.map.Map.{Map}
-use Rattle.scoring.specs.Scores.{Outcome, refusal, values, Scores, scores_of, map_score_of}
+use Rattle.scoring.specs.Scores.{Scores, scores_of, map_score_of}
 use Rattle.scoring.specs.View.{PlaysOf, are}
 use Rattle.scoring.proofs.Answers.{plays_refused, map_scored}
 use Rattle.listing.specs.Listing.{GoodFile, plays_text, text_of, file_text, if_fits, listed_of}
 use Rattle.rules.proofs.Laws.{never}
 
-map_text : (x : Outcome Scores) (a : ScoreAttributes) → good a ≡ map_score_of x → map_line a ++ plays_text x ≡ text_of x
-map_text (refusal n at) a e = never (cc)
-map_text (values s) a e =
-    let is : a ≡ score_attributes_at s.map (length s.map.objects) = cc in ap (λ (b : ScoreAttributes). map_line b ++ plays_text (values s)) is
+map_text : (x : OrRefusal Scores) (a : ScoreAttributes) → good a ≡ map_score_of x → map_line a ++ plays_text x ≡ text_of x
+unfolding ◌>>=◌
+map_text (refused r) a e = never (cc)
+map_text (good s) a e =
+    let is : a ≡ score_attributes_at s.map (length s.map.objects) = cc in ap (λ (b : ScoreAttributes). map_line b ++ plays_text (good s)) is
 
 -- all objects are passed
 module _ (s : List ℕ) where

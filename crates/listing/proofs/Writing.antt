@@ -1,7 +1,7 @@
 -- What the loop that writes the plays' lines keeps: the page has the lines of the plays read so far behind what it had before. Assumes nothing.
 use Rattle.rules.specs.declared.refusal.Rule.{Rule}
-use Rattle.rules.specs.Refusals.{good, refused, PLAY_EXCEEDS}
-use mathlib.Core.Path.{◌≡◌, refl, sym, ap, ◌∙◌}
+use Rattle.rules.specs.Refusals.{good, refused, refusal_at, PLAY_EXCEEDS}
+use mathlib.Core.Path.{◌≡◌, refl, sym, ap, ◌∙◌, subst}
 use mathlib.Core.Bool.{Bool, true, false}
 use mathlib.Core.List.{List, [], ◌∷◌, ◌++◌, append-nil, append_assoc}
 use Prim.Native.Nat.{ℕ, suc, ◌+◌, ◌≤◌, ◌<◌, min}
@@ -29,7 +29,7 @@ use Rattle.estimates.specs.declared.calculator.Estimates.{Estimates}
 use Rattle.play_score.specs.PlayRules.{exceeds}
 use Rattle.play_score.proofs.Exceeding.{score_of, exceeds_refused, exceeds_not}
 use Rattle.play_score.specs.declared.PlayScore.{PlayScore}
-use Rattle.scoring.specs.Scores.{refusal, play_score_on, scores_of}
+use Rattle.scoring.specs.Scores.{play_score_on, scores_of}
 use Rattle.scoring.specs.View.{wanted_after, Playing}
 use Rattle.scoring.specs.declared.plays.Wanted.{Wanted}
 use Rattle.scoring.specs.declared.plays.Wanted.TheVariants as wanted
@@ -66,10 +66,10 @@ pub record Writing (s : List ℕ) (m : Map) (first : Page) (at index : ℕ) (pag
   pub count : index ≡ length playing.scores
   pub written : page ≡ put first (play_lines 0 playing.scores)
 
-pub writing_start : {s : List ℕ} {m : Map} (k : GoodFile s m) (page : Page) → page.at ≤ length page.space.now → Writing s m page m.end 0 page
-writing_start k page h =
+pub writing_start : {s : List ℕ} {m : Map} (k : GoodFile s m) (page : Page) → page.at ≤ length page.space.now → (at : ℕ) → at ≡ m.end → Writing s m page at 0 page
+writing_start {s = s} {m = m} k page h at here =
     let none = sym (start_scores k.map 0) in
-    record {
+    subst (λ (e : ℕ). Writing s m page e 0 page) (sym here) record {
       wanted = wanted.Ahead 0;
       playing = playing_start k.map 0;
       count = ap length none;
@@ -81,7 +81,7 @@ pub end_inside : {s : List ℕ} {m : Map} → GoodFile s m → m.end ≤ length 
 end_inside {s = s} k = let e = k.map.end in let inside = chain_inside s k.map.file k.map.chain in omega (arith, e, inside)
 
 -- a good file is not refused
-not_refused : {A : Type 0} {s : List ℕ} {m : Map} (k : GoodFile s m) (n : Rule) (at : ℕ) → scores_of (file_of s) ≡ refusal n at → A
+not_refused : {A : Type 0} {s : List ℕ} {m : Map} (k : GoodFile s m) (n : Rule) (at : ℕ) → scores_of (file_of s) ≡ refused (refusal_at n at) → A
 not_refused k n at e = let same = sym k.good ∙ e in never (cc)
 
 module _ {s : List ℕ} {m : Map} {first : Page} {at index : ℕ} {page : Page} (k : Writing s m first at index page) where

@@ -1,13 +1,14 @@
 -- Document 01, "Runs to reproduce": the text of the listing program. Definitions only.
-use Rattle.std.specs.Prelude.{ℕ, suc, ◌≡◌, List, [], ◌∷◌, ◌++◌, ltb, length, Option, Some, None}
+use Rattle.std.specs.Prelude.{ℕ, suc, ◌≡◌, List, [], ◌∷◌, ◌++◌, ltb, length, Option}
+use Rattle.std.specs.Bool.{then_some}
 use Rattle.rules.specs.Limits.{max_input}
 use Rattle.lines.specs.Lines.{map_line, play_line, refused_line}
-use Rattle.rules.specs.Refusals.{refusal_at, pick, INPUT}
+use Rattle.rules.specs.Refusals.{OrRefusal, good, refused, refusal_at, pick, INPUT}
 use Rattle.map_file.specs.File.{file_of}
 use Rattle.map_reader.specs.Map.{MapIs}
 use Rattle.map_reader.specs.declared.map.Map.{Map}
 use Rattle.simulator.specs.Attributes.{score_attributes_at}
-use Rattle.scoring.specs.Scores.{Outcome, refusal, values, Scores, scores_of}
+use Rattle.scoring.specs.Scores.{Scores, scores_of}
 use Rattle.play_score.specs.declared.PlayScore.{PlayScore}
 
 -- a line for each play, numbered from an index on
@@ -16,9 +17,9 @@ play_lines i [] = []
 play_lines i (s ∷ ss) = play_line i s.estimates ++ play_lines (suc i) ss
 
 -- "Map, of all objects"; "A refusal prints only `refused N at OFFSET`"
-abbrev pub text_of : Outcome Scores → List ℕ
-text_of (refusal n at) = refused_line (refusal_at n at)
-text_of (values s) = map_line (score_attributes_at s.map (length s.map.objects)) ++ play_lines 0 s.plays
+abbrev pub text_of : OrRefusal Scores → List ℕ
+text_of (refused r) = refused_line r
+text_of (good s) = map_line (score_attributes_at s.map (length s.map.objects)) ++ play_lines 0 s.plays
 
 -- the listing of a map file
 unfoldable pub file_text : List ℕ → List ℕ
@@ -30,20 +31,20 @@ input_text s = pick (ltb max_input (length s)) (refused_line (refusal_at INPUT 0
 
 -- a text that leaves the space no byte does not fit
 abbrev pub if_fits : ℕ → ℕ → Option ℕ
-if_fits at room = pick (ltb at room) (Some at) None
+if_fits at room = then_some (ltb at room) at
 
 -- the length of a text that fits
 abbrev pub listed_of : List ℕ → ℕ → Option ℕ
 listed_of text room = if_fits (length text) room
 
 -- ---- what the code keeps
-abbrev pub plays_text : Outcome Scores → List ℕ
-plays_text (refusal n at) = []
-plays_text (values s) = play_lines 0 s.plays
+abbrev pub plays_text : OrRefusal Scores → List ℕ
+plays_text (refused r) = []
+plays_text (good s) = play_lines 0 s.plays
 
 -- m is the map of a file that is not refused
 pub record GoodFile (s : List ℕ) (m : Map) : Type 0 where
   pub p : ℕ
   pub map : MapIs s p m
   pub scores : Scores
-  pub good : scores_of (file_of s) ≡ values scores
+  pub good : scores_of (file_of s) ≡ good scores

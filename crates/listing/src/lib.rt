@@ -22,6 +22,7 @@ pub const MAX_INPUT: usize = 65536;
 
 // The lines of a file's plays. They are all good, so that no play ends the lines early. Marks are made only for plays; a line has no bonus, so that no
 // spinner is walked for it. By index, since std says of `step_by` with `enumerate` only what is left, and not where the next play stands.
+#[tactic(auto, using(marks::proofs::Marked::mark_there, crate::proofs::Writing::writing_start))]
 fn put_plays(file: &MapFile, page: &mut Page<'_>)
     requires good_file { GoodFile file.now.bytes.now file.now.map }
     requires in_bounds { page.old.at ≤ length page.old.space.now }

@@ -1,5 +1,6 @@
 pub mod Ranks
 pub mod Bodies
+pub mod Marked
 pub mod Sizes
 pub mod Room
 pub mod Steps

@@ -7,6 +7,8 @@ use Rattle.records.specs.Fields.{cut}
 use Rattle.records.specs.Objects.{kind_bonus}
 use Rattle.records.specs.Marks.{MH, BR, CI, SL, SP, PL}
 use Rattle.records.specs.Records.{Content, header, break, object, play, FoundRecord, header_of, break_of, play_of, object_of}
+use Rattle.records.specs.declared.mark.Mark.{Mark}
+use Rattle.records.specs.declared.mark.Mark.TheVariants as mark
 use Rattle.map_file.specs.declared.file.Counts.{Counts}
 use Rattle.map_file.specs.declared.file.Rank.{Rank}
 use Rattle.map_file.specs.declared.file.Rank.TheVariants as rank
@@ -36,6 +38,14 @@ place (Some rank.Object) = 3
 place (Some rank.Play) = 4
 
 -- the place of a mark
+abbrev pub rank_by : Mark → Rank
+rank_by mark.Header = rank.Header
+rank_by mark.Break = rank.Break
+rank_by mark.Circle = rank.Object
+rank_by mark.Slider = rank.Object
+rank_by mark.Spinner = rank.Object
+rank_by mark.Play = rank.Play
+
 abbrev pub rank_of : ℕ → Option Rank
 rank_of mark =
     pick (eqb mark MH) header_rank

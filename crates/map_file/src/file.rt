@@ -1,15 +1,19 @@
 // The next record of a map file, by all its checks: the order, the counts, the record itself and the bonus.
 ghost use Rattle.std.specs.Prelude.{◌≡◌};
+ghost use Rattle.std.specs.Prelude.{Some};
+ghost use Rattle.records.specs.Marks.{word_of};
 ghost use Rattle.records.specs.Records.{record_read};
-ghost use Rattle.map_file.specs.Order.{rank_of, in_order, is_full, over_bonus, body_of, record_of};
+ghost use Rattle.map_file.specs.Order.{rank_by, in_order, is_full, over_bonus, body_of, record_of};
 ghost use Rattle.map_file.specs.View.{bonus_in};
 
-use numbers::words::word_at;
+use play_state::Play;
 use records::beatmap::{BreakPeriod, Settings};
 use records::hit_object::{HitObject, HitObjectKind};
+use records::map_record::{read_break, read_header};
 use records::mark::Mark;
+use records::object_record::read_kind;
+use records::play_record::read_play;
 use records::record::{Read, Record};
-use records::{map_record, object_record, play_record};
 use rules::refusal::Rule;
 
 // The places of the records in their order.
@@ -38,53 +42,52 @@ pub struct Reader {
     pub counts: Counts,
 }
 
-// The place of a mark; an unknown one has none.
-#[tactic(auto, unfolding(crate::specs::Order::rank_of))]
-pub fn rank_of(mark: u64) -> Option<Rank>
-    ensures { result ≡ rank_of mark }
-{
-    let rank = match Mark::try_from(mark).ok()? {
-        Mark::Header => Rank::Header,
-        Mark::Break => Rank::Break,
-        Mark::Circle | Mark::Slider | Mark::Spinner => Rank::Object,
-        Mark::Play => Rank::Play,
-    };
-    Some(rank)
+// The place of a mark.
+impl From<Mark> for Rank {
+    ghost from_gives = { λ mark r. r ≡ rank_by mark };
+
+    fn from(mark: Mark) -> Rank {
+        match mark {
+            Mark::Header => Rank::Header,
+            Mark::Break => Rank::Break,
+            Mark::Circle | Mark::Slider | Mark::Spinner => Rank::Object,
+            Mark::Play => Rank::Play,
+        }
+    }
 }
 
 // MH once, any BR, any objects, any PL.
-fn in_order(last: Option<Rank>, rank: Option<Rank>) -> bool
-    ensures { result ≡ in_order last rank }
+fn in_order(last: Option<Rank>, rank: Rank) -> bool
+    ensures { result ≡ in_order last (Some rank) }
 {
-    match (last, rank) {
-        (_, None) => false,
-        (None, Some(rank)) => rank == Rank::Header,
-        (Some(last), Some(rank)) => Rank::Header < rank && last <= rank,
+    match last {
+        None => rank == Rank::Header,
+        Some(last) => Rank::Header < rank && last <= rank,
     }
 }
 
-fn is_full(c: Counts, rank: Option<Rank>) -> bool
-    ensures { result ≡ is_full c rank }
+fn is_full(c: Counts, rank: Rank) -> bool
+    ensures { result ≡ is_full c (Some rank) }
 {
     match rank {
-        Some(Rank::Break) => BreakPeriod::MAX_COUNT <= c.breaks,
-        Some(Rank::Object) => HitObject::MAX_COUNT <= c.objects,
-        None | Some(Rank::Header | Rank::Play) => false,
+        Rank::Break => BreakPeriod::MAX_COUNT <= c.breaks,
+        Rank::Object => HitObject::MAX_COUNT <= c.objects,
+        Rank::Header | Rank::Play => false,
     }
 }
 
-// The kinds by themselves: a second caller of `read_object` would make it a call in an edit, which then takes 5% more instructions.
 #[tactic(auto, unfolding(crate::specs::Order::body_of, records::specs::Records::object_of))]
-fn read_body(r: &[u8], mark: u64) -> Read
-    ensures { result ≡ record_read (body_of r.now mark) }
+fn read_body(r: &[u8], mark: Mark) -> Read
+    ensures { result ≡ record_read (body_of r.now (word_of mark)) }
 {
-    match Mark::try_from(mark)? {
-        Mark::Header => map_record::read_header(r),
-        Mark::Break => map_record::read_break(r),
-        Mark::Circle => object_record::read_circle(r),
-        Mark::Slider => object_record::read_slider(r),
-        Mark::Spinner => object_record::read_spinner(r),
-        Mark::Play => play_record::read_play(r),
+    match mark {
+        Mark::Header => Ok((Record::Header(read_header(r)?), Settings::SIZE)),
+        Mark::Break => Ok((Record::Break(read_break(r)?), BreakPeriod::SIZE)),
+        Mark::Circle | Mark::Slider | Mark::Spinner => {
+            let (object, size) = read_kind(r, mark)?;
+            Ok((Record::Object(object), size))
+        }
+        Mark::Play => Ok((Record::Play(read_play(r)?), Play::SIZE)),
     }
 }
 
@@ -110,15 +113,12 @@ fn is_over_bonus(c: Counts, bonus: u64) -> bool
 }
 
 // The record that the rest of a file starts with, by all checks of one record in their order. Its bonus is worked out once, for the last of them.
-#[tactic(auto, using(rules::proofs::Steps::steps, crate::proofs::Bodies::bonus_kept), unfolding(crate::specs::Order::record_of))]
+#[tactic(auto, using(rules::proofs::Steps::steps, crate::proofs::Bodies::bonus_kept, crate::proofs::Marked::record_by_mark))]
 pub fn read_record(r: &[u8], c: Counts) -> Read
     ensures { result ≡ record_read (record_of r.now c) }
 {
-    if r.len() < 2 {
-        return Err(Rule::Cut);
-    }
-    let mark = word_at(r, 0, 2);
-    let rank = rank_of(mark);
+    let mark = Mark::read(r)?;
+    let rank = Rank::from(mark);
     if !in_order(c.last, rank) {
         return Err(Rule::Mark);
     }

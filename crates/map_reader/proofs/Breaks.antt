@@ -8,9 +8,10 @@ use native.Mathlib.Omega.{arith}
 use borrow.Author.Tests.{eqb-true, ltb-false, eqb-false}
 use lib.Dec.{eqb}
 use lib.ListN.{length, drop, length-drop}
+use Rattle.std.specs.Prelude.{is_ok}
 use Rattle.numbers.specs.Words.{word_at}
 use Rattle.rules.specs.Limits.{max_breaks}
-use Rattle.rules.specs.Refusals.{good, refused, pick, CUT, MARK}
+use Rattle.rules.specs.Refusals.{good, refused, ◌>>=◌, pick, CUT, MARK}
 use Rattle.rules.proofs.All.{All, that, all_any, all_when, all_out}
 use Rattle.rules.proofs.Laws.{and_left, and_right}
 use Rattle.records.specs.Marks.{BR}
@@ -23,7 +24,7 @@ use Rattle.map_file.specs.File.{File, counts_of, with_record, nothing_read, refu
 use Rattle.map_file.specs.View.{Fits, fresh_of}
 use Rattle.map_file.proofs.Reading.{Chain, chain_inside, start, longer, on_start, on_stop, on_end, found_at, length_snoc}
 use Rattle.map_file.proofs.Room.{record_fits, Begun, record_begun}
-use Rattle.map_reader.specs.Map.{objects_from, head_with, head_of, head_in, is_good, is_break, breaks_after, breaks_count}
+use Rattle.map_reader.specs.Map.{objects_from, head_with, head_in, is_break, breaks_after, breaks_count}
 use Rattle.map_reader.proofs.Records.{break_good, found_break}
 use Rattle.map_reader.proofs.Files.{chain_standing, NoBreak}
 
@@ -58,10 +59,10 @@ record BreakRead (r : List ℕ) : Type 0 where
 
 break_read : (r : List ℕ) → is_break r ≡ true → BreakRead r
 unfolding is_break
-break_read r e = go (break_of r) refl (break_only r) (and_right (eqb (word_at r 0 2) BR) (is_good (break_of r)) e)
+break_read r e = go (break_of r) refl (break_only r) (and_right (eqb (word_at r 0 2) BR) (is_ok (break_of r)) e)
   where
     mark_is : word_at r 0 2 ≡ BR
-    mark_is = eqb-true (word_at r 0 2) BR (and_left (eqb (word_at r 0 2) BR) (is_good (break_of r)) e)
+    mark_is = eqb-true (word_at r 0 2) BR (and_left (eqb (word_at r 0 2) BR) (is_ok (break_of r)) e)
 
     by_content : (x : Content) (n : ℕ) → BreakOnly r x n → break_of r ≡ good (x, n) → BreakRead r
     by_content (break b) n (only h) q = record { b = b; mark = mark_is; found = q; long = h }
@@ -69,7 +70,7 @@ break_read r e = go (break_of r) refl (break_only r) (and_right (eqb (word_at r 
     by_content (object _) n x5 q = elim x5 [ ]
     by_content (play _) n x6 q = elim x6 [ ]
 
-    go : (x : FoundRecord) → break_of r ≡ x → All (λ f. BreakOnly r f.0 f.1) x → is_good x ≡ true → BreakRead r
+    go : (x : FoundRecord) → break_of r ≡ x → All (λ f. BreakOnly r f.0 f.1) x → is_ok x ≡ true → BreakRead r
     go (refused n) q a h = cc
     go (good f) q a h = by_content f.0 f.1 (all_out a) q
 
@@ -155,7 +156,7 @@ record HeadRead (s : List ℕ) (t : Settings) : Type 0 where
   at : BreaksAt s t 0 file
 
 head_read : (s : List ℕ) (t : Settings) → good t ≡ head_in s → HeadRead s t
-unfolding head_in counts_of bonus with_record
+unfolding head_in counts_of bonus with_record ◌>>=◌
 head_read s t e = by_length (eqb (length s) 0) refl e
   where
     by_content : 0 < length s → (x : Content) (n : ℕ) → record_of s fresh_of.counts ≡ good (x, n) → good t ≡ head_with x → HeadRead s t
@@ -169,16 +170,16 @@ head_read s t e = by_length (eqb (length s) 0) refl e
     by_content h (object o) n q e = cc
     by_content h (play p) n q e = cc
 
-    by_found : 0 < length s → (x : FoundRecord) → record_of s fresh_of.counts ≡ x → good t ≡ head_of x → HeadRead s t
+    by_found : 0 < length s → (x : FoundRecord) → record_of s fresh_of.counts ≡ x → good t ≡ (x >>= (λ f. head_with f.0)) → HeadRead s t
     by_found h (refused m) q e = cc
     by_found h (good f) q e = by_content h f.0 f.1 q e
 
-    by_length : (b : Bool) → eqb (length s) 0 ≡ b → good t ≡ pick b (refused MARK) (head_of (record_of s fresh_of.counts)) → HeadRead s t
+    by_length : (b : Bool) → eqb (length s) 0 ≡ b → good t ≡ pick b (refused MARK) (record_of s fresh_of.counts >>= (λ f. head_with f.0)) → HeadRead s t
     by_length true q e = cc
     by_length false q e = by_found (omega (arith, eqb-false (length s) 0 q)) (record_of s fresh_of.counts) refl e
 
 pub head_refuses : (s : List ℕ) (n : Rule) → refused n ≡ head_in s → file_of s ≡ refused_at n 0 nothing_read
-unfolding head_in counts_of bonus
+unfolding head_in counts_of bonus ◌>>=◌
 head_refuses s n e = by_length (eqb (length s) 0) refl e
   where
     by_content : (x : Content) (m : ℕ) → Begun fresh_of.counts x → refused n ≡ head_with x → ⊥
@@ -187,11 +188,11 @@ head_refuses s n e = by_length (eqb (length s) 0) refl e
     by_content (object o) m b e = omega (arith, b)
     by_content (play p) m b e = omega (arith, b)
 
-    by_found : 0 < length s → (x : FoundRecord) → record_of s fresh_of.counts ≡ x → refused n ≡ head_of x → file_of s ≡ refused_at n 0 nothing_read
+    by_found : 0 < length s → (x : FoundRecord) → record_of s fresh_of.counts ≡ x → refused n ≡ (x >>= (λ f. head_with f.0)) → file_of s ≡ refused_at n 0 nothing_read
     by_found h (refused m) q e = let k : n ≡ m = cc in on_stop s nothing_read m (on_start s) h q ∙ ap (λ (i : Rule). refused_at i 0 nothing_read) (sym k)
     by_found h (good f) q e = absurd (by_content f.0 f.1 (all_out (subst (All (λ g. Begun fresh_of.counts g.0)) q (record_begun s fresh_of.counts))) e)
 
-    by_length : (b : Bool) → eqb (length s) 0 ≡ b → refused n ≡ pick b (refused MARK) (head_of (record_of s fresh_of.counts)) → file_of s ≡ refused_at n 0 nothing_read
+    by_length : (b : Bool) → eqb (length s) 0 ≡ b → refused n ≡ pick b (refused MARK) (record_of s fresh_of.counts >>= (λ f. head_with f.0)) → file_of s ≡ refused_at n 0 nothing_read
     by_length true q e =
         let k : n ≡ MARK = cc in
         let z = eqb-true (length s) 0 q in

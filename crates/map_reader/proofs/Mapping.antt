@@ -13,7 +13,7 @@ use lib.Seq.{take_all}
 use Rattle.numbers.specs.Words.{word_at}
 use Rattle.numbers.proofs.words.Laws.{word_at-drop}
 use Rattle.rules.specs.Limits.{max_objects}
-use Rattle.rules.specs.Refusals.{good, refused, pick, Checked, OrRefusal, refusal_at}
+use Rattle.rules.specs.Refusals.{good, refused, ◌>>=◌, pick, Checked, OrRefusal, refusal_at, at_offset}
 use Rattle.rules.proofs.All.{All, all_out}
 use Rattle.std.specs.Prelude.{Option, None, Some}
 use Rattle.records.specs.Marks.{PL}
@@ -33,7 +33,7 @@ use Rattle.map_file.proofs.Room.{record_fits}
 use Rattle.ruleset.specs.Drain.{start_of}
 use Rattle.ruleset.proofs.FileBreaks.{Placed, record_placed}
 use Rattle.map_reader.specs.Objects.{objects_at, ran_of}
-use Rattle.map_reader.specs.Map.{objects_from, head_in, breaks_count, first_start_of, rank_behind, reader_behind, end_of, end_in, map_at, map_ended, map_to, then_read, rest_of, objects_of, StateOf, RanTo, to as ran_to, Behind, nothing, plays, MapIs, MapReadOf, is, refuses}
+use Rattle.map_reader.specs.Map.{objects_from, head_in, breaks_count, first_start_of, rank_behind, reader_behind, end_in, map_at, map_to, rest_of, objects_of, StateOf, RanTo, to as ran_to, Behind, nothing, plays, MapIs, MapReadOf, is, refuses}
 use Rattle.map_reader.specs.declared.objects.Objects.{Objects}
 use Rattle.map_reader.proofs.Running.{count_of, next_stops}
 use Rattle.map_reader.proofs.Records.{found_play}
@@ -112,18 +112,18 @@ module _ {s : List ℕ} {g : File} {all : Objects} (k : Keeps s g all) (free : N
   no_record (play p) n e h = h (found_play (drop g.at s) (counts_of g) (play p, n) e refl)
 
   stop_at : StopAt s g (end_in s (view g))
-  unfolding end_in view
+  unfolding end_in view ◌>>=◌
   stop_at = by_end (leb (length s) g.at) refl
     where
-      by_found : g.at < length s → (word_at (drop g.at s) 0 2 ≡ PL → ⊥) → (x : FoundRecord) → found_at s g ≡ x → StopAt s g (end_of x)
+      by_found : g.at < length s → (word_at (drop g.at s) 0 2 ≡ PL → ⊥) → (x : FoundRecord) → found_at s g ≡ x → StopAt s g (x >>= (λ r. good tt))
       by_found h m (refused n) e = stops (on_stop s g n (chain_on s g k.chain) h e)
       by_found h m (good f) e = absurd (no_record f.0 f.1 e m)
 
-      by_mark : g.at < length s → (b : Bool) → eqb (word_at (drop g.at s) 0 2) PL ≡ b → StopAt s g (pick b (good tt) (end_of (found_at s g)))
+      by_mark : g.at < length s → (b : Bool) → eqb (word_at (drop g.at s) 0 2) PL ≡ b → StopAt s g (pick b (good tt) (found_at s g >>= (λ r. good tt)))
       by_mark h true e = ends (plays h (eqb-true _ PL e))
       by_mark h false e = by_found h (eqb-false _ PL e) (found_at s g) refl
 
-      by_end : (b : Bool) → leb (length s) g.at ≡ b → StopAt s g (pick b (good tt) (pick (eqb (word_at (drop g.at s) 0 2) PL) (good tt) (end_of (found_at s g))))
+      by_end : (b : Bool) → leb (length s) g.at ≡ b → StopAt s g (pick b (good tt) (pick (eqb (word_at (drop g.at s) 0 2) PL) (good tt) (found_at s g >>= (λ r. good tt))))
       by_end true e = ends (nothing (leb-true _ _ e))
       by_end false e = by_mark (leb-false _ _ e) (eqb (word_at (drop g.at s) 0 2) PL) refl
 
@@ -214,7 +214,8 @@ module _ {s : List ℕ} {t : Settings} (breaks : BreakCount) (k : BreaksEnd s t 
       nexts = λ n h. ran_nexts s f from keeps_start k.at.objects all g e w n h few;
     }
 
-    map_to_lem : (x : Checked (Unit {0})) → StopAt s g x → MapReadOf s p (map_ended s t breaks passed all x)
+    map_to_lem : (x : Checked (Unit {0})) → StopAt s g x → MapReadOf s p (at_offset all.at x >>= (λ ended. good (map_at s t breaks passed all)))
+    unfolding ◌>>=◌
     map_to_lem (good tt) (ends h) = is (map_is h)
     map_to_lem (refused n) (stops q) = refuses (q ∙ ap (λ (m : ℕ). refused_at n m g) (sym kg.at)) (chain_plays s g kg.chain kg.no_play)
 
@@ -226,18 +227,20 @@ module _ {s : List ℕ} {t : Settings} (breaks : BreakCount) (k : BreaksEnd s t 
 
   -- all objects behind those that are passed
   read_all : (passed : Objects) → good passed ≡ ran_of true (min p max_objects) s from → (r : OrRefusal Objects) → r ≡ ran_of true max_objects s from → RanFile s f from max_objects r
-      → MapReadOf s p (then_read (map_to s t breaks passed) r)
+      → MapReadOf s p (r >>= map_to s t breaks passed)
+  unfolding ◌>>=◌
   read_all passed e (refused r) q (over g h n) = refuses h n
   read_all passed e (good all) q (to g kg w done) = stopped_is all g q kg w passed e done
 
   pub objects_read : MapReadOf s p (objects_of s t breaks p)
+  unfolding ◌>>=◌
   objects_read = go (ran_of true (min p max_objects) s from) refl (keeps_ran (min p max_objects) s f from keeps_start (omega arith))
     where
-      go : (r : OrRefusal Objects) → ran_of true (min p max_objects) s from ≡ r → RanFile s f from (min p max_objects) r → MapReadOf s p (then_read (rest_of s t breaks) r)
+      go : (r : OrRefusal Objects) → ran_of true (min p max_objects) s from ≡ r → RanFile s f from (min p max_objects) r → MapReadOf s p (r >>= rest_of s t breaks)
       go (refused r) e (over g h n) = refuses h n
       go (good y) e (to g kg w done) =
           let on = reads_on s f from keeps_start k.at.objects (min p max_objects) y (omega arith) (sym e) done in
-          subst (λ (r : OrRefusal Objects). MapReadOf s p (then_read (map_to s t breaks y) r)) (sym on) (read_all y (sym e) (ran_of true max_objects s from) refl (keeps_ran max_objects s f from keeps_start (omega arith)))
+          subst (λ (r : OrRefusal Objects). MapReadOf s p (r >>= map_to s t breaks y)) (sym on) (read_all y (sym e) (ran_of true max_objects s from) refl (keeps_ran max_objects s f from keeps_start (omega arith)))
 
 pub read_is : (s : List ℕ) (t : Settings) (b : BreakCount) (p : ℕ) → good t ≡ head_in s → b.count ≡ breaks_count s → MapReadOf s p (objects_of s t b p)
 read_is s t b p e n = objects_read b (subst (BreaksEnd s t) (sym n) (head_reads s t e)) p

@@ -6,16 +6,16 @@ use Prim.Native.Nat.{ℕ, ◌+◌, ◌≤◌}
 use native.Mathlib.Omega.{arith}
 use lib.ListN.{length}
 use lib.Ieee.{Float}
-use Rattle.numbers.specs.Floats.{whole}
-use Rattle.rules.specs.Limits.{max_nested}
+use Rattle.rules.specs.Limits.{max_nested, circle_size, spinner_size}
+use Rattle.rules.proofs.Laws.{never}
 use Rattle.rules.specs.Refusals.{good, refused, CUT, COUNT, Checked}
 use Rattle.records.specs.Marks.{CI, SL, SP}
 use Rattle.records.specs.Objects.{Object, Kind, circle, slider, spinner, kind_view, object_view, kind_bonus}
-use Rattle.records.specs.Records.{Content, object, FoundRecord, record_read, circle_of, slider_of, spinner_of, object_of, break, header, play}
+use Rattle.records.specs.Records.{Content, object, FoundRecord, content_view, record_read, circle_read, circle_of, slider_read, slider_of, spinner_read, spinner_of, object_of, break, header, play}
+use Rattle.records.specs.declared.hit_object.Spinner.{Spinner}
 use Rattle.records.specs.declared.hit_object.Slider.{Slider}
 use Rattle.records.specs.declared.hit_object.HitObject.{HitObject}
 use Rattle.records.specs.declared.hit_object.HitObjectKind.{HitObjectKind}
-use Rattle.records.specs.declared.hit_object.HitObjectKind.TheVariants as kind
 use Rattle.records.specs.declared.record.Record.{Record}
 use Rattle.records.specs.declared.record.Record.TheVariants as record_case
 use Rattle.rules.proofs.All.{All, that, all_any, all_when, all_out}
@@ -76,82 +76,46 @@ step_read w x (good (break _, n)) = refl
 step_read w x (good (object o, n)) = object_kept w x o n
 step_read w x (good (play _, n)) = refl
 
--- ---- what each record is read as: an object of its mark's kind, within the input
-abbrev nested_in : HitObjectKind → Slider
-nested_in kind.Circle = record { repeats = 0; ticks = 0 }
-nested_in (kind.Slider s) = s
-nested_in (kind.Spinner s) = record { repeats = 0; ticks = 0 }
+-- ---- an object that was read stands within the input, and has few items
+abbrev pub ObjectRead : List ℕ → HitObjectKind → ℕ → Type 0
+ObjectRead r k n = (n ≤ length r) × (nested_count k ≤ max_nested)
 
-abbrev duration_in : HitObjectKind → Float
-duration_in kind.Circle = whole 0
-duration_in (kind.Slider s) = whole 0
-duration_in (kind.Spinner s) = s.duration
+object_read : (r : List ℕ) (h : HitObject) (n : ℕ) (y : FoundRecord) → All (Sized r) y → All (λ f. FewIn f.0) y → good (record_case.Object h, n) ≡ record_read y → ObjectRead r h.kind n
+object_read r h n (refused m) a b e = never (cc)
+object_read r h n (good f) a b e = by_content f.0 (all_out a) (all_out b) (ap (λ (i : Record × ℕ). i.0) both)
+  where
+    both : ◌≡◌ {A = Record × ℕ} (record_case.Object h, n) (content_view f.0, f.1)
+    both = cc
 
-abbrev circle_in : HitObjectKind → HitObjectKind
-circle_in k = kind.Circle
+    by_content : (x : Content) → Sized r (x, f.1) → FewIn x → record_case.Object h ≡ content_view x → ObjectRead r h.kind n
+    by_content (header t) c d q = never (cc)
+    by_content (break t) c d q = never (cc)
+    by_content (play p) c d q = never (cc)
+    by_content (object o) c d q =
+        let same : h ≡ object_view o = cc in
+        let j = ap (λ (i : Record × ℕ). i.1) both in
+        (omega (arith, j, c.1), subst (λ (x : HitObject). nested_count x.kind ≤ max_nested) (sym same) d)
 
-abbrev slider_in : HitObjectKind → HitObjectKind
-slider_in k = kind.Slider (nested_in k)
+module _ (r : List ℕ) where
+  of_mark : (m : ℕ) (h : HitObject) (n : ℕ) → good (record_case.Object h, n) ≡ record_read (object_of r m) → ObjectRead r h.kind n
+  of_mark m h n e = object_read r h n (object_of r m) (object_sized r m) (object_few r m) e
 
-abbrev spinner_in : HitObjectKind → HitObjectKind
-spinner_in k = kind.Spinner (record { duration = duration_in k })
-
-abbrev KindBy : (HitObjectKind → HitObjectKind) → Content → Type 0
-KindBy F (header t) = ⊥
-KindBy F (break b) = ⊥
-KindBy F (object o) = kind_view o.kind ≡ F (kind_view o.kind)
-KindBy F (play p) = ⊥
-
-pub record ObjectRead (F : HitObjectKind → HitObjectKind) (r : List ℕ) (h : HitObject) (n : ℕ) : Type 0 where
-  pub inside : n ≤ length r
-  pub few : nested_count h.kind ≤ max_nested
-  pub kind : h.kind ≡ F h.kind
-
-module _ (F : HitObjectKind → HitObjectKind) (r : List ℕ) (h : HitObject) (n : ℕ) where
-  by_found : (y : FoundRecord) → All (λ f. KindBy F f.0) y → All (Sized r) y → All (λ f. FewIn f.0) y → good (record_case.Object h, n) ≡ record_read y → ObjectRead F r h n
-  by_found (refused m) a b c e = cc
-  by_found (good (header _, k)) a b c e = absurd (all_out a)
-  by_found (good (break _, k)) a b c e = absurd (all_out a)
-  by_found (good (play _, k)) a b c e = absurd (all_out a)
-  by_found (good (object o, k)) a b c e =
-      let both : ◌≡◌ {A = Record × ℕ} (record_case.Object h, n) (record_case.Object (object_view o), k) = cc in
-      let i = ap (λ (f : Record × ℕ). f.0) both in
-      let j = ap (λ (f : Record × ℕ). f.1) both in
-      let v : h ≡ object_view o = cc in
-      let m = all_out b in
-      record {
-        inside = omega (arith, j, m.1);
-        few = subst (λ (x : HitObject). nested_count x.kind ≤ max_nested) (sym v) (all_out c);
-        kind = subst (λ (x : HitObject). x.kind ≡ F x.kind) (sym v) (all_out a);
-      }
-
-  by_mark : (m : ℕ) → All (λ f. KindBy F f.0) (object_of r m) → good (record_case.Object h, n) ≡ record_read (object_of r m) → ObjectRead F r h n
-  by_mark m a e = by_found (object_of r m) a (object_sized r m) (object_few r m) e
-
-circle_kind : (r : List ℕ) → All (λ f. KindBy circle_in f.0) (circle_of r)
-unfolding circle_of
-circle_kind r = all_when CUT _ _ (λ _. all_any _ _ (λ a. that refl))
-
-slider_kind : (r : List ℕ) → All (λ f. KindBy slider_in f.0) (slider_of r)
-unfolding slider_of
-slider_kind r = all_when CUT _ _ (λ _. all_any _ _ (λ a. all_when COUNT _ _ (λ _. all_when CUT _ _ (λ _. all_any _ _ (λ is. that refl)))))
-
-spinner_kind : (r : List ℕ) → All (λ f. KindBy spinner_in f.0) (spinner_of r)
-unfolding spinner_of
-spinner_kind r = all_when CUT _ _ (λ _. all_any _ _ (λ a. all_any _ _ (λ b. that refl)))
-
-module _ (r : List ℕ) {item : Record} {h : HitObject} {n : ℕ} (e : item ≡ record_case.Object h) where
-  pub circle_read : good (item, n) ≡ record_read (circle_of r) → ObjectRead circle_in r h n
+  pub circle_inside : (t : Checked Float) (start : Float) → circle_read t ≡ record_read (circle_of r) → t ≡ good start → circle_size ≤ length r
   unfolding object_of
-  circle_read k = by_mark circle_in r h n CI (circle_kind r) (rw e at k)
+  circle_inside t start e q = (of_mark CI _ _ (ap circle_read (sym q) ∙ e)).0
 
-  pub slider_read : good (item, n) ≡ record_read (slider_of r) → ObjectRead slider_in r h n
+  pub slider_inside : (t : Checked (Float × Slider × ℕ)) (start : Float) (i : Slider) (n : ℕ) → slider_read t ≡ record_read (slider_of r) → t ≡ good (start, i, n) → n ≤ length r
   unfolding object_of
-  slider_read k = by_mark slider_in r h n SL (slider_kind r) (rw e at k)
+  slider_inside t start i n e q = (of_mark SL _ _ (ap slider_read (sym q) ∙ e)).0
 
-  pub spinner_read : good (item, n) ≡ record_read (spinner_of r) → ObjectRead spinner_in r h n
+  pub slider_few : (t : Checked (Float × Slider × ℕ)) (start : Float) (i : Slider) (n : ℕ) → slider_read t ≡ record_read (slider_of r) → t ≡ good (start, i, n)
+      → i.repeats + i.ticks + 1 ≤ max_nested
   unfolding object_of
-  spinner_read k = by_mark spinner_in r h n SP (spinner_kind r) (rw e at k)
+  slider_few t start i n e q = (of_mark SL _ _ (ap slider_read (sym q) ∙ e)).1
+
+  pub spinner_inside : (t : Checked (Float × Spinner)) (start : Float) (i : Spinner) → spinner_read t ≡ record_read (spinner_of r) → t ≡ good (start, i) → spinner_size ≤ length r
+  unfolding object_of
+  spinner_inside t start i e q = (of_mark SP _ _ (ap spinner_read (sym q) ∙ e)).0
 
 -- ---- a circle or a slider steps the state the same, whether half spins are walked or not
 abbrev Unspun : Content → Type 0

@@ -1,11 +1,11 @@
 -- What the code reads of a file's map, and what that says of the file.
-use Rattle.std.specs.Prelude.{ℕ, zero, suc, ◌+◌, ◌*◌, ◌-◌, ◌≤◌, ◌<◌, min, ◌≡◌, Bool, true, false, ◌&&◌, List, [], ◌∷◌, ◌++◌, Some, eqb, ltb, leb, Float, length, take, drop}
+use Rattle.std.specs.Prelude.{ℕ, zero, suc, ◌+◌, ◌*◌, ◌-◌, ◌≤◌, ◌<◌, min, ◌≡◌, Bool, true, false, ◌&&◌, List, [], ◌∷◌, ◌++◌, Some, eqb, ltb, leb, Float, length, take, drop, is_ok}
 use Rattle.std.specs.Float.{binary64}
 use Rattle.std.specs.Float.Ieee.{of_bits}
 use Rattle.numbers.specs.Floats.{whole}
 use Rattle.numbers.specs.Words.{word_at}
 use Rattle.rules.specs.Limits.{max_objects, max_breaks, header_size, break_size, circle_size}
-use Rattle.rules.specs.Refusals.{good, refused, pick, MARK, Checked, OrRefusal, refusal_at}
+use Rattle.rules.specs.Refusals.{good, refused, ◌>>=◌, pick, MARK, Checked, OrRefusal, refusal_at, at_offset}
 use Rattle.rules.specs.declared.refusal.Rule.{Rule}
 use Rattle.records.specs.Marks.{BR, PL}
 use Rattle.records.specs.Objects.{Object}
@@ -36,20 +36,12 @@ abbrev pub head_with : Content → Checked Settings
 head_with (header t) = good t
 head_with other = refused MARK
 
-abbrev pub head_of : FoundRecord → Checked Settings
-head_of (refused n) = refused n
-head_of (good f) = head_with f.0
-
 -- "or the input is empty"
 unfoldable pub head_in : List ℕ → Checked Settings
-head_in s = pick (eqb (length s) 0) (refused MARK) (head_of (record_of s fresh_of.counts))
-
-abbrev pub is_good : FoundRecord → Bool
-is_good (refused n) = false
-is_good (good f) = true
+head_in s = pick (eqb (length s) 0) (refused MARK) (record_of s fresh_of.counts >>= (λ found. head_with found.0))
 
 unfoldable pub is_break : List ℕ → Bool
-is_break r = eqb (word_at r 0 2) BR && is_good (break_of r)
+is_break r = eqb (word_at r 0 2) BR && is_ok (break_of r)
 
 -- the breaks behind `count` others, n at most
 unfoldable pub breaks_after : ℕ → List ℕ → ℕ → ℕ
@@ -81,14 +73,10 @@ reader_behind t breaks x = record {
   };
 }
 
-abbrev pub end_of : FoundRecord → Checked (Unit {0})
-end_of (refused n) = refused n
-end_of (good f) = good tt
-
 -- behind a map stand its plays or nothing, else a record that is refused
 unfoldable pub end_in : List ℕ → Reader → Checked (Unit {0})
 end_in s reader = pick (leb (length s) reader.at) (good tt)
-    (pick (eqb (word_at (drop reader.at s) 0 2) PL) (good tt) (end_of (record_of (drop reader.at s) reader.counts)))
+    (pick (eqb (word_at (drop reader.at s) 0 2) PL) (good tt) (record_of (drop reader.at s) reader.counts >>= (λ found. good tt)))
 
 abbrev pub map_at : List ℕ → Settings → BreakCount → Objects → Objects → Map
 map_at s t breaks passed all = record {
@@ -100,22 +88,14 @@ map_at s t breaks passed all = record {
   passed = passed;
 }
 
-abbrev pub map_ended : List ℕ → Settings → BreakCount → Objects → Objects → Checked (Unit {0}) → OrRefusal Map
-map_ended s t breaks passed all (refused n) = refused (refusal_at n all.at)
-map_ended s t breaks passed all (good _) = good (map_at s t breaks passed all)
-
 abbrev pub map_to : List ℕ → Settings → BreakCount → Objects → Objects → OrRefusal Map
-map_to s t breaks passed all = map_ended s t breaks passed all (end_in s (reader_behind t breaks.count all))
-
-abbrev pub then_read : (Objects → OrRefusal Map) → OrRefusal Objects → OrRefusal Map
-then_read go (refused r) = refused r
-then_read go (good x) = go x
+map_to s t breaks passed all = at_offset all.at (end_in s (reader_behind t breaks.count all)) >>= (λ ended. good (map_at s t breaks passed all))
 
 abbrev pub rest_of : List ℕ → Settings → BreakCount → Objects → OrRefusal Map
-rest_of s t breaks passed = then_read (map_to s t breaks passed) (ran_of true (max_objects - passed.nested.object_count) s passed)
+rest_of s t breaks passed = ran_of true (max_objects - passed.nested.object_count) s passed >>= map_to s t breaks passed
 
 abbrev pub objects_of : List ℕ → Settings → BreakCount → ℕ → OrRefusal Map
-objects_of s t breaks p = then_read (rest_of s t breaks) (ran_of true (min p max_objects) s (objects_at (objects_from breaks.count)))
+objects_of s t breaks p = ran_of true (min p max_objects) s (objects_at (objects_from breaks.count)) >>= rest_of s t breaks
 
 -- ---- what that says of the file
 -- the state behind some objects

@@ -7,9 +7,11 @@ use Rattle.rules.specs.Refusals.{good, refused, pick, OrRefusal, refusal_at, BON
 use Rattle.records.specs.Objects.{Object, Kind, circle, slider, spinner, kind_bonus}
 use Rattle.records.specs.Records.{Content, header, break, object, play, FoundRecord, object_of}
 use Rattle.simulator.specs.Hits.{hits_of}
-use Rattle.simulator.specs.Walk.{fresh, walk}
+use Rattle.simulator.specs.Walk.{State, fresh, walk}
 use Rattle.simulator.specs.Nested.{no_object, counted}
 use Rattle.simulator.specs.Limits.{Within, Counted}
+use Rattle.simulator.specs.View.{kind_of}
+use Rattle.records.specs.declared.hit_object.HitObject.{HitObject}
 use Rattle.map_reader.specs.declared.objects.Objects.{Objects}
 use Rattle.map_reader.specs.declared.objects.Stepped.{Stepped}
 use Rattle.map_reader.specs.declared.objects.Stepped.TheVariants as step
@@ -33,6 +35,10 @@ stepped w x o size = record {
   nested = counted x.nested o.kind;
   last_start = o.start;
 }
+
+-- so for an object as the code keeps it, behind which the score is given
+abbrev pub next_behind : Objects → HitObject → ℕ → State → Stepped
+next_behind x h size score = step.Next (record { at = x.at + size; score = score; nested = counted x.nested (kind_of h.kind); last_start = h.start_time })
 
 abbrev pub bonus_of : Objects → ℕ
 bonus_of x = x.score.legacy_bonus_score.0

@@ -1,6 +1,8 @@
 // The map of a file, with the state behind its first objects. What the loop over the objects does not take goes once through the checks of a
 // record, which give the number.
-ghost use Rattle.std.specs.Prelude.{◌≡◌, ◌≤◌, length, drop};
+ghost use Rattle.std.specs.Prelude.{◌≡◌, ◌≤◌, eqb, length, drop};
+ghost use Rattle.numbers.specs.Words.{word_at};
+ghost use Rattle.records.specs.Marks.{word_of};
 ghost use Rattle.map_reader.specs.Objects.{Small};
 ghost use Rattle.map_reader.specs.Map.{objects_from, head_in, is_break, breaks_count, first_start_of, rank_behind, reader_behind, end_in, map_to, objects_of, MapReadOf};
 
@@ -11,7 +13,6 @@ use records::beatmap::{BreakCount, BreakPeriod, Settings};
 use records::hit_object::HitObject;
 use records::map_record;
 use records::mark::Mark;
-use records::record::Record;
 use rules::refusal::{Refusal, Rule};
 use std::num::f64_from_bits_with_nan;
 
@@ -34,27 +35,29 @@ pub fn objects_from(breaks: BreakCount) -> usize
 }
 
 // The settings that a file starts with.
-#[tactic(auto, using(crate::proofs::Heads::head_cut, crate::proofs::Heads::head_marked, crate::proofs::Heads::head_read), unfolding(crate::specs::Map::head_in))]
+#[tactic(auto, using(rules::proofs::Steps::steps, crate::proofs::Heads::head_by_mark, crate::proofs::Heads::header_alone), unfolding(crate::specs::Map::head_in))]
 fn read_head(s: &[u8]) -> Result<Settings, Rule>
     ensures { result ≡ head_in s.now }
 {
     if s.len() == 0 {
         return Err(Rule::Mark);
     }
-    if s.len() < 2 {
-        return Err(Rule::Cut);
-    }
-    if Mark::try_from(word_at(s, 0, 2)) != Ok(Mark::Header) {
+    if Mark::read(s)? != Mark::Header {
         return Err(Rule::Mark);
     }
-    match map_record::read_header(s)? {
-        (Record::Header(settings), _) => Ok(settings),
-        (Record::Break(_) | Record::Object(_) | Record::Play(_), _) => Err(Rule::Mark),
-    }
+    map_record::read_header(s)
+}
+
+// Whether r starts with a mark, which a single byte is not.
+#[tactic(auto, using(records::proofs::Marks::mark_stands, records::proofs::Marks::mark_other))]
+fn starts_with(r: &[u8], mark: Mark) -> bool
+    ensures { result ≡ eqb (word_at r.now 0 2) (word_of mark) }
+{
+    Mark::read(r) == Ok(mark)
 }
 
 // A break with good times stands at an offset.
-#[tactic(auto, using(map_file::proofs::Steps::rest_is, crate::proofs::Heads::good_read), unfolding(crate::specs::Map::is_break))]
+#[tactic(auto, using(map_file::proofs::Steps::rest_is, crate::proofs::Heads::good_read, crate::proofs::Heads::break_past), unfolding(crate::specs::Map::is_break))]
 fn is_break(s: &[u8], at: usize) -> bool
     ensures { result ≡ is_break (drop at s.now) }
 {
@@ -62,10 +65,7 @@ fn is_break(s: &[u8], at: usize) -> bool
         return false;
     }
     let r = &s[at..];
-    if Mark::try_from(word_at(r, 0, 2)) != Ok(Mark::Break) {
-        return false;
-    }
-    map_record::read_break(r).is_ok()
+    starts_with(r, Mark::Break) && map_record::read_break(r).is_ok()
 }
 
 #[tactic(auto, using(crate::proofs::Heads::breaks_stop, crate::proofs::Heads::breaks_next, crate::proofs::Heads::breaks_end))]
@@ -84,6 +84,7 @@ fn count_breaks(s: &[u8]) -> BreakCount
 }
 
 // Each object has its start at the same place.
+#[tactic(auto, unfolding(numbers::proofs::Literals::of_bits, numbers::proofs::Literals::of_int))]
 fn first_start(s: &[u8], breaks: BreakCount, objects: u64) -> f64
     ensures { result ≡ first_start_of s.now breaks.count objects }
 {
@@ -122,15 +123,12 @@ fn reader_behind(settings: Settings, breaks: BreakCount, all: Objects) -> Reader
 }
 
 // Behind a map stand its plays or nothing, else a record that is refused.
-#[tactic(auto, using(map_file::proofs::Steps::rest_is, crate::proofs::Heads::ended), unfolding(crate::specs::Map::end_in))]
+#[tactic(auto, using(map_file::proofs::Steps::rest_is, rules::proofs::Steps::steps), unfolding(crate::specs::Map::end_in))]
 fn check_end(s: &[u8], reader: Reader) -> Result<(), Rule>
     ensures { result ≡ end_in s.now reader }
 {
     let at = reader.at;
-    if s.len() <= at {
-        return Ok(());
-    }
-    if Mark::try_from(word_at(&s[at..], 0, 2)) == Ok(Mark::Play) {
+    if s.len() <= at || starts_with(&s[at..], Mark::Play) {
         return Ok(());
     }
     read_record(&s[at..], reader.counts)?;
@@ -138,6 +136,7 @@ fn check_end(s: &[u8], reader: Reader) -> Result<(), Rule>
 }
 
 // The map that ends where `all` stands.
+#[tactic(auto, using(rules::proofs::Steps::steps))]
 fn map_to(
     s: &[u8],
     settings: Settings,
@@ -160,6 +159,7 @@ fn map_to(
     })
 }
 
+#[tactic(auto, using(rules::proofs::Steps::steps))]
 fn read_objects(
     s: &[u8],
     settings: Settings,
@@ -174,6 +174,9 @@ fn read_objects(
     let all = run::<Walked>(s, state, HitObject::MAX_COUNT)?;
     map_to(s, settings, breaks, state, all)
 }
+
+// More than any map has: as passed objects, all of them.
+pub const ALL_OBJECTS: u64 = u64::MAX;
 
 // The map of a file, whatever stands behind it, with the state behind its first `passed` objects.
 pub fn read_passed(s: &[u8], passed: u64) -> Result<Map, Refusal>

@@ -1,16 +1,15 @@
 // The objects of a map, one after the other: each steps the running state.
 ghost use Rattle.std.specs.Prelude.{◌≡◌, ◌+◌, ◌-◌, ◌≤◌, ◌<◌, ◌^◌, length, Bool, true, false};
-ghost use Rattle.rules.specs.Limits.{max_objects};
+ghost use Rattle.rules.specs.Limits.{max_objects, max_nested};
 ghost use Rattle.records.specs.Objects.{spinner as spinnerKind};
 ghost use Rattle.simulator.specs.Hits.{hits_of};
 ghost use Rattle.simulator.specs.Walk.{walk};
-ghost use Rattle.simulator.specs.Limits.{Within};
+ghost use Rattle.simulator.specs.Limits.{Within, Counted, nested_count};
 ghost use Rattle.records.specs.Records.{circle_of, slider_of, spinner_of};
-ghost use Rattle.map_reader.specs.Objects.{hit_as, objects_at, Room, Small, stepped_by, next_of, ran_of};
+ghost use Rattle.map_reader.specs.Objects.{hit_as, objects_at, Room, Small, next_behind, stepped_by, next_of, ran_of};
 
 use numbers::words::word_at;
 use records::hit_object::{HitObject, HitObjectKind, Spinner};
-use records::record::Record;
 use records::{mark, object_record};
 use rules::refusal::{Refusal, Rule};
 use simulator::legacy_score::NestedScorePerObject;
@@ -66,6 +65,7 @@ impl SpinnerStep for Unwalked {
 }
 
 impl Objects {
+    #[tactic(auto, unfolding(numbers::proofs::Literals::of_bits, numbers::proofs::Literals::of_int))]
     pub fn new(at: usize) -> Self
         ensures { result ≡ objects_at at }
     {
@@ -77,50 +77,52 @@ impl Objects {
         }
     }
 
+    // The state behind one object more, which is `size` bytes long.
+    #[inline(always)]
+    fn behind(self, object: HitObject, size: usize, score: OsuLegacyScoreSimulator) -> Stepped
+        requires { Counted (max_objects - 1) self.nested × (nested_count object.kind ≤ max_nested) × (self.at + size < 2 ^ 64) }
+        ensures { result ≡ next_behind self object size score }
+    {
+        Stepped::Next(Objects {
+            at: self.at + size,
+            score,
+            nested: self.nested.process_next(object),
+            last_start: object.start_time,
+        })
+    }
+
     // Three functions read the three kinds, so that each has the reading and the step of its own in one piece: one for all takes 3 to 4 times the
-    // instructions.
+    // instructions. A trait over the kinds would be longer: four types, each with a reading and a step under contracts of its own, of which only a
+    // spinner's step may be refused. Each asks for the room itself: a type that carries it would be made anew for each object, since the specs build
+    // Objects.
     #[tactic(auto, using(crate::proofs::Stepping::step_read))]
     fn with_circle(self, r: &[u8]) -> Stepped
         requires { Room self × (self.at + length r.now < 2 ^ 64) }
         ensures { result ≡ stepped_by true self (circle_of r.now) }
     {
-        let Ok((Record::Object(object), size)) = object_record::read_circle(r) else {
+        let Ok(start_time) = object_record::read_circle(r) else {
             return Stepped::Stop;
         };
-        let kind = object.kind;
-        let HitObjectKind::Circle = kind else {
-            return Stepped::Stop;
-        };
-        let score = self.score;
-        let nested = self.nested;
-        Stepped::Next(Objects {
-            at: self.at + size,
-            score: score.circle(),
-            nested: nested.process_next(object),
-            last_start: object.start_time,
-        })
+        let score = self.score.circle();
+        let kind = HitObjectKind::Circle;
+        self.behind(
+            HitObject { start_time, kind },
+            HitObject::CIRCLE_SIZE,
+            score,
+        )
     }
 
-    #[tactic(auto, using(crate::proofs::Stepping::step_read))]
+    #[tactic(auto, using(crate::proofs::Stepping::step_read, crate::proofs::Stepping::slider_few))]
     fn with_slider(self, r: &[u8]) -> Stepped
         requires { Room self × (self.at + length r.now < 2 ^ 64) }
         ensures { result ≡ stepped_by true self (slider_of r.now) }
     {
-        let Ok((Record::Object(object), size)) = object_record::read_slider(r) else {
+        let Ok((start_time, slider, size)) = object_record::read_slider(r) else {
             return Stepped::Stop;
         };
-        let kind = object.kind;
-        let HitObjectKind::Slider(slider) = kind else {
-            return Stepped::Stop;
-        };
-        let score = self.score;
-        let nested = self.nested;
-        Stepped::Next(Objects {
-            at: self.at + size,
-            score: score.slider(slider),
-            nested: nested.process_next(object),
-            last_start: object.start_time,
-        })
+        let score = self.score.slider(slider);
+        let kind = HitObjectKind::Slider(slider);
+        self.behind(HitObject { start_time, kind }, size, score)
     }
 
     #[tactic(auto, using(crate::proofs::Stepping::step_read, crate::proofs::Stepping::walk_legacy))]
@@ -128,25 +130,19 @@ impl Objects {
         requires { Room self × (self.at + length r.now < 2 ^ 64) }
         ensures { result ≡ stepped_by S.walks self (spinner_of r.now) }
     {
-        let Ok((Record::Object(object), size)) = object_record::read_spinner(r) else {
+        let Ok((start_time, spinner)) = object_record::read_spinner(r) else {
             return Stepped::Stop;
         };
-        let kind = object.kind;
-        let HitObjectKind::Spinner(spinner) = kind else {
-            return Stepped::Stop;
-        };
-        let score = self.score;
-        let nested = self.nested;
-        let next = S::step(score, spinner);
-        if HitObject::MAX_BONUS < next.legacy_bonus_score.0 {
+        let score = S::step(self.score, spinner);
+        if HitObject::MAX_BONUS < score.legacy_bonus_score.0 {
             return Stepped::OverBonus;
         }
-        Stepped::Next(Objects {
-            at: self.at + size,
-            score: next,
-            nested: nested.process_next(object),
-            last_start: object.start_time,
-        })
+        let kind = HitObjectKind::Spinner(spinner);
+        self.behind(
+            HitObject { start_time, kind },
+            HitObject::SPINNER_SIZE,
+            score,
+        )
     }
 
     // The shortest object has the size of a circle.

@@ -5,6 +5,7 @@ use mathlib.Core.Bool.{Bool, true, false}
 use mathlib.Core.List.{List}
 use Prim.Native.Nat.{ℕ, ◌+◌, ◌*◌, ◌-◌, ◌/◌, ◌≤◌, ◌<◌, min}
 use Rattle.std.specs.Prelude.{◌↔◌}
+use Rattle.std.specs.Result.{result_unwrap_or}
 use Rattle.std.proofs.Math.Nat.{mul-le-mul_right}
 use native.Mathlib.Nat.{div-mul-le_self, le-div_iff_mul-le, lt_of_mul-lt-mul_right, ne_of_lt}
 use native.Mathlib.Omega.{arith}
@@ -37,7 +38,7 @@ use Rattle.map_reader.proofs.Bare.{bare, ran_bare}
 use Rattle.map_reader.proofs.Attributed.{limits, complete, attributes_are}
 use Rattle.map_reader.proofs.Passed.{attributes_passed}
 use Rattle.play_score.specs.PlayRules.{exceeds, play_score}
-use Rattle.marks.specs.Marks.{stride_of, IsMap, state_in, state_or, first_of, IsMark, MarksOf, passed_of, mark_before, StateBefore, with_passed, attributes_from, scored_anew, without_bonus}
+use Rattle.marks.specs.Marks.{stride_of, IsMap, state_or, first_of, IsMark, MarksOf, passed_of, mark_before, StateBefore, with_passed, attributes_from, scored_anew, without_bonus}
 use Rattle.marks.specs.declared.Marks.{Marks}
 
 -- ---- numbers of marks
@@ -64,7 +65,7 @@ chain_breaks s f (longer {f = g} {r = (play p, n)} c l e) b h = absurd (omega (a
 data IsTo : OrRefusal Objects → Type 0 where
   is_to : {x : Objects} → IsTo (good x)
 
-ran_is : (x : Objects) (r : OrRefusal Objects) → IsTo r → good (state_in x r) ≡ r
+ran_is : (x : Objects) (r : OrRefusal Objects) → IsTo r → good (result_unwrap_or r x) ≡ r
 ran_is x (good y) is_to = refl
 ran_is x (refused r) x3 = elim x3 [ ]
 

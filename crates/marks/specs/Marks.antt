@@ -1,6 +1,7 @@
 -- The states kept at marks, and a play from a state before it.
-use Rattle.rules.specs.Refusals.{Checked, OrRefusal, good, refused}
+use Rattle.rules.specs.Refusals.{Checked, good}
 use Rattle.std.specs.Prelude.{ℕ, ◌+◌, ◌*◌, ◌-◌, ◌/◌, ◌≤◌, min, ◌≡◌, Bool, true, false, List, get_or}
+use Rattle.std.specs.Result.{result_unwrap_or}
 use Rattle.numbers.specs.Floats.{whole}
 use Rattle.simulator.specs.declared.attributes.ScoreAttributes.{ScoreAttributes}
 use Rattle.play_state.specs.declared.Play.{Play}
@@ -22,12 +23,8 @@ pub record IsMap (s : List ℕ) (m : Map) : Type 0 where
   pub is : MapIs s p m
 
 -- the state that a run came to
-abbrev pub state_in : Objects → OrRefusal Objects → Objects
-state_in from (refused r) = from
-state_in from (good x) = x
-
 abbrev pub state_or : Bool → List ℕ → Objects → ℕ → Objects
-state_or w s from count = state_in from (ran_of w (count - from.nested.object_count) s from)
+state_or w s from count = result_unwrap_or (ran_of w (count - from.nested.object_count) s from) from
 
 -- before the first object
 abbrev pub first_of : Map → Objects

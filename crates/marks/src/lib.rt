@@ -5,7 +5,7 @@
 ghost use Rattle.std.specs.Prelude.{◌≡◌, ◌≤◌, ◌<◌, false};
 ghost use Rattle.rules.specs.Limits.{max_objects};
 ghost use Rattle.map_reader.specs.Objects.{Small};
-ghost use Rattle.marks.specs.Marks.{stride_of, state_or, IsMap, MarksOf, mark_before, StateBefore, attributes_from, scored_anew};
+ghost use Rattle.marks.specs.Marks.{stride_of, state_or, IsMap, MarksOf, passed_of, mark_before, StateBefore, attributes_from, scored_anew};
 
 use map_reader::attributes::attributes_of;
 use map_reader::map::{Map, objects_from};
@@ -15,10 +15,13 @@ use play_state::Play;
 use rules::refusal::Rule;
 use simulator::attributes::ScoreAttributes;
 
-// The i-th is behind i strides of objects. As many as there may be, since the project takes no heap.
+// As many as there may be, since the project takes no heap.
+const MAX_MARKS: usize = 128;
+
+// The i-th is behind i strides of objects.
 #[derive(Clone, Copy)]
 pub struct Marks {
-    pub states: [Objects; 128],
+    pub states: [Objects; MAX_MARKS],
 }
 
 // A file and its map.
@@ -29,11 +32,11 @@ pub struct MapFile<'a> {
     ghost read: { ∥ IsMap bytes.now map ∥₁ },
 }
 
-// The objects from one mark to the next: few enough for 128 marks.
+// The objects from one mark to the next: few enough for MAX_MARKS marks.
 fn stride_of(objects: u64) -> u64
     ensures { result ≡ stride_of objects }
 {
-    objects / 128 + 1
+    objects / MAX_MARKS as u64 + 1
 }
 
 // The state behind `count` objects, from one before it.
@@ -44,11 +47,18 @@ fn state_at<S: SpinnerStep>(s: &[u8], from: Objects, count: u64) -> Objects
     run::<S>(s, from, count).unwrap_or(from)
 }
 
+// How many of so many objects a play passed.
+pub fn passed_of(play: Play, objects: u64) -> u64
+    ensures { result ≡ passed_of objects play }
+{
+    u64::from(play.passed_objects).min(objects)
+}
+
 // The last mark that is not behind the objects that a play passed.
 pub fn mark_before(objects: u64, play: Play) -> usize
     ensures { (result ≡ mark_before objects play) × (result < 128) }
 {
-    (u64::from(play.passed_objects).min(objects) / stride_of(objects)) as usize
+    (passed_of(play, objects) / stride_of(objects)) as usize
 }
 
 impl MapFile<'_> {
@@ -58,7 +68,7 @@ impl MapFile<'_> {
         let map = self.map;
         let stride = stride_of(map.objects);
         let mut state = Objects::new(objects_from(map.breaks));
-        let mut states = [state; 128];
+        let mut states = [state; MAX_MARKS];
         let count = (map.objects / stride) as usize + 1;
         // i is the number of the mark, from which its objects are counted.
         for i in 1..count {
@@ -74,8 +84,7 @@ impl MapFile<'_> {
         ensures { result ≡ attributes_from S.walks self.now.bytes.now self.now.map before play }
     {
         let map = self.map;
-        let count = u64::from(play.passed_objects).min(map.objects);
-        let passed = state_at::<S>(self.bytes, before, count);
+        let passed = state_at::<S>(self.bytes, before, passed_of(play, map.objects));
         attributes_of(self.bytes, Map { passed, ..map })
     }
 

@@ -1,6 +1,6 @@
 // Floats taken apart by their bits, for those that compute with them as whole numbers. The bits come from std's function for any float, since
 // `f64::to_bits` is not defined at a NaN.
-ghost use Rattle.std.specs.Prelude.{◌≡◌};
+ghost use Rattle.std.specs.Prelude.{◌≡◌, ◌^◌, ◌<◌};
 ghost use Rattle.numbers.specs.Bits.{parts_of};
 
 use std::num::f64_to_bits_with_nan;
@@ -17,6 +17,13 @@ pub enum Parts {
         significand: u64,
         exponent: u64,
     },
+}
+
+// The significand of a finite float, for what computes with it. Not in `Parts`, since their definition would then hold a proof for each value.
+#[derive(Clone, Copy)]
+pub struct Significand {
+    pub digits: u64,
+    ghost short: { digits < 2 ^ 53 },
 }
 
 // The fields of the bits: the sign, the exponent's 11 bits, and the 52 digits below the leading one, which a field of 0 has not.

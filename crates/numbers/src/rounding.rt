@@ -4,7 +4,7 @@ ghost use Rattle.std.specs.Float.Ieee as Ieee;
 ghost use Rattle.std.specs.Float.Ieee.Nearest.{closest};
 ghost use Rattle.numbers.specs.Rounding.{round_ties_even_i32, saturated};
 
-use super::bits::{Parts, split};
+use super::bits::{Parts, Significand, split};
 
 const I32_MAX: u64 = 2147483647;
 
@@ -20,16 +20,15 @@ const WHOLES: f64 = 6755399441055744.0;
 const WHOLES_BITS: i64 = 0x4338_0000_0000_0000;
 
 // The whole number nearest to significand / 2 ^ shift, the even one of two that are as near.
-fn shift_ties_even(significand: u64, shift: u64) -> u64
-    requires { significand < 2 ^ 53 }
-    ensures { result ≡ closest significand (2 ^ shift) }
+fn shift_ties_even(significand: Significand, shift: u64) -> u64
+    ensures { result ≡ closest significand.digits (2 ^ shift) }
 {
     if shift >= 54 {
         return 0;
     }
     let unit = 1u64 << shift;
-    let q = significand >> shift;
-    let rest = significand & (unit - 1);
+    let q = significand.digits >> shift;
+    let rest = significand.digits & (unit - 1);
     if rest * 2 < unit {
         return q;
     }
@@ -40,9 +39,9 @@ fn shift_ties_even(significand: u64, shift: u64) -> u64
 }
 
 // The whole number nearest to significand * 2 ^ exponent / 2 ^ 1074, at most 2 ^ 31: more makes no difference to an i32.
-fn magnitude(significand: u64, exponent: u64) -> u64
-    requires { (significand < 2 ^ 53) × (0 < exponent → 2 ^ 52 ≤ significand) }
-    ensures { result ≡ min (closest (significand * 2 ^ exponent) (2 ^ 1074)) (2 ^ 31) }
+fn magnitude(significand: Significand, exponent: u64) -> u64
+    requires { 0 < exponent → 2 ^ 52 ≤ significand.digits }
+    ensures { result ≡ min (closest (significand.digits * 2 ^ exponent) (2 ^ 1074)) (2 ^ 31) }
 {
     if exponent >= 1074 {
         return I32_LIMIT;
@@ -71,7 +70,12 @@ fn round_parts(x: f64) -> i32
             negative,
             significand,
             exponent,
-        } => saturate_i32(negative, magnitude(significand, exponent)),
+        } => {
+            let significand = Significand {
+                digits: significand,
+            };
+            saturate_i32(negative, magnitude(significand, exponent))
+        }
     }
 }
 

@@ -9,8 +9,8 @@ fn whole_word(s: &[u8]) -> u64
     ensures { result ≡ word_at s.now 0 (length s.now) }
 {
     let mut word: u64 = 0;
-    for i in (0..s.len()).rev() {
-        word = word * 256 + s[i] as u64;
+    for &byte in s.iter().rev() {
+        word = word * 256 + u64::from(byte);
     }
     word
 }

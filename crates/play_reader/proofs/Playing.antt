@@ -1,27 +1,31 @@
 -- Behind a map only plays stand: what the code reads there is the definition's next record, or its refusal.
 use mathlib.Core.Path.{◌≡◌, refl, sym, ap, ◌∙◌, subst}
-use mathlib.Core.Bool.{Bool, true, false, not}
+use mathlib.Core.Bool.{Bool, true, false}
 use mathlib.Core.List.{List}
 use Prim.Native.Nat.{ℕ, zero, suc, ◌+◌, ◌≤◌, ◌<◌}
 use native.Mathlib.Omega.{arith}
-use borrow.Author.Tests.{lt-ltb, le-ltb, le-leb, ne_eqb, eqb-true, eqb-false, ltb-true, ltb-false}
-use lib.Dec.{eqb, ltb}
+use borrow.Author.Tests.{lt-ltb, le-leb, ltb-true}
+use lib.Dec.{ltb}
 use lib.ListN.{length, drop, length-drop}
 use Rattle.numbers.specs.Words.{word_at}
 use Rattle.rules.specs.Limits.{max_bonus}
-use Rattle.rules.specs.Refusals.{good, refused, ◌>>=◌, ◌>>◌, refuse◌when◌, pick, Checked, BONUS, CUT, MARK, PLAY_FIELD}
+use Rattle.rules.specs.Refusals.{good, refused, ◌>>=◌, ◌>>◌, refuse◌when◌, pick, Checked, CUT, PLAY_FIELD}
 use Rattle.rules.specs.declared.refusal.Rule.{Rule}
 use Rattle.rules.specs.declared.refusal.Refusal.{Refusal}
-use Rattle.rules.proofs.All.{All, that, all_any, all_when, all_out}
-use Rattle.records.specs.Marks.{MH, BR, CI, SL, SP, PL, mark_of}
+use Rattle.rules.proofs.Laws.{never}
+use Rattle.rules.proofs.All.{All, none, that, all_any, all_when, all_map, all_out}
+use Rattle.records.specs.Marks.{PL, mark_in, word_of}
+use Rattle.records.specs.declared.mark.Mark.{Mark}
 use Rattle.records.specs.declared.mark.Mark.TheVariants as mark
-use Rattle.records.proofs.Marks.{word_is}
+use Rattle.records.proofs.Marks.{mark_word}
+use Rattle.records.proofs.Alone.{alone}
 use Rattle.records.specs.Objects.{bonus}
-use Rattle.records.specs.Records.{Content, header, break, object, play, FoundRecord, content_view, record_read, play_of}
-use Rattle.records.specs.declared.record.Record.{Record}
+use Rattle.records.specs.Records.{Content, header, break, object, play, FoundRecord, content_view, record_read, play_read, play_of}
 use Rattle.records.specs.declared.record.Record.TheVariants as record_case
 use Rattle.play_state.specs.declared.Play.{Play}
-use Rattle.map_file.specs.Order.{no_rank, header_rank, break_rank, object_rank, play_rank, place, rank_of, in_order, over_bonus, content_bonus, body_of, record_of}
+use Rattle.map_file.specs.Order.{play_rank, place, content_bonus, body_of, record_of}
+use Rattle.map_file.proofs.Bodies.{no_bonus}
+use Rattle.map_file.proofs.Marked.{record_with, record_by_mark}
 use Rattle.map_file.specs.File.{File, accepted, refused_at, counts_of, with_record, follow, ended, file_from, file_of}
 use Rattle.map_file.specs.declared.file.Counts.{Counts}
 use Rattle.map_file.proofs.Ranks.{placed_some}
@@ -29,7 +33,7 @@ use Rattle.map_file.proofs.Reading.{longer, chain_on, chain_inside, on_stop, on_
 use Rattle.map_reader.specs.Map.{MapIs, MapReadOf, is, refuses as map_refuses, Behind, nothing, plays}
 use Rattle.map_reader.specs.declared.map.Map.{Map}
 use Rattle.map_reader.proofs.Attributed.{limits}
-use Rattle.play_reader.specs.Plays.{play_record, play_with, play_by, play_in, Place, first, later, Reached, MapFileOf, refuses}
+use Rattle.play_reader.specs.Plays.{play_marked, play_record, play_with, play_in, Place, first, later, Reached, MapFileOf, refuses}
 
 -- ---- the record of a play
 data PlayOnly : Content → ℕ → Type 0 where
@@ -41,138 +45,87 @@ body_only r = all_when CUT _ _ (λ _. all_any _ _ (λ o. all_any _ _ (λ s. all_
 
 play_only : (r : List ℕ) → All (λ f. PlayOnly f.0 f.1) (play_record r)
 unfolding play_record
-play_only r = all_when CUT _ _ (λ _. all_when MARK _ _ (λ _. body_only r))
+play_only r = all_any (mark_in r) (play_marked r) by_mark
+  where
+    by_mark : (m : Mark) → All (λ f. PlayOnly f.0 f.1) (play_marked r m)
+    by_mark mark.Header = none
+    by_mark mark.Break = none
+    by_mark mark.Circle = none
+    by_mark mark.Slider = none
+    by_mark mark.Spinner = none
+    by_mark mark.Play = body_only r
+
+-- a play is all that its record tells
+play_back : (x : FoundRecord) → All (λ f. PlayOnly f.0 f.1) x → x ≡ ((x >>= (λ f. play_with f.0)) >>= (λ p. good (play p, 44)))
+unfolding ◌>>=◌
+play_back (refused n) a = refl
+play_back (good f) a = by_content f.0 f.1 (all_out a)
+  where
+    by_content : (x : Content) (n : ℕ) → PlayOnly x n → ◌≡◌ {A = FoundRecord} (good (x, n)) (play_with x >>= (λ p. good (play p, 44)))
+    by_content (play p) n only = refl
+    by_content (header _) n x4 = elim x4 [ ]
+    by_content (break _) n x5 = elim x5 [ ]
+    by_content (object _) n x6 = elim x6 [ ]
+
+play_told : (r : List ℕ) (x : Checked Play) → x ≡ play_in r → play_record r ≡ (x >>= (λ p. good (play p, 44)))
+play_told r x e = play_back (play_record r) (play_only r) ∙ ap (λ y. y >>= (λ p. good (play p, 44))) (sym e)
 
 pub play_is : (r : List ℕ) (p : Play) → good p ≡ play_in r → play_record r ≡ good (play p, 44)
-play_is r p e = go (play_record r) refl (play_only r) e
-  where
-    by_content : (x : Content) (n : ℕ) → PlayOnly x n → play_record r ≡ good (x, n) → good p ≡ play_with x → play_record r ≡ good (play p, 44)
-    by_content (play q) n only h e = let same : q ≡ p = cc in h ∙ ap (λ (i : Play). good (play i, 44)) same
-    by_content (header _) n x5 h e = elim x5 [ ]
-    by_content (break _) n x6 h e = elim x6 [ ]
-    by_content (object _) n x7 h e = elim x7 [ ]
-
-    go : (x : FoundRecord) → play_record r ≡ x → All (λ f. PlayOnly f.0 f.1) x → good p ≡ play_by x → play_record r ≡ good (play p, 44)
-    go (refused n) q a e = cc
-    go (good f) q a e = by_content f.0 f.1 (all_out a) q e
+unfolding ◌>>=◌
+play_is r p e = play_told r (good p) e
 
 pub play_refused : (r : List ℕ) (n : Rule) → refused n ≡ play_in r → play_record r ≡ refused n
-play_refused r n e = go (play_record r) refl (play_only r) e
+unfolding ◌>>=◌
+play_refused r n e = play_told r (refused n) e
+
+-- ---- what the code takes of a record: the reader of plays gives that alone
+pub play_alone : (x : FoundRecord) (t : Checked Play) → play_read t ≡ record_read x → t ≡ (x >>= (λ f. play_with f.0))
+play_alone = alone play_read (λ p. (record_case.Play p, 44)) play_with (λ p. refl) (λ n. refl) back
   where
-    by_content : (x : Content) (m : ℕ) → PlayOnly x m → refused n ≡ play_with x → play_record r ≡ refused n
-    by_content (play q) m only e = cc
-    by_content (header _) m x4 e = elim x4 [ ]
-    by_content (break _) m x5 e = elim x5 [ ]
-    by_content (object _) m x6 e = elim x6 [ ]
-
-    go : (x : FoundRecord) → play_record r ≡ x → All (λ f. PlayOnly f.0 f.1) x → refused n ≡ play_by x → play_record r ≡ refused n
-    go (refused m) q a e = let same : m ≡ n = cc in q ∙ ap refused same
-    go (good f) q a e = by_content f.0 f.1 (all_out a) e
-
--- ---- what the code takes of a record
-abbrev play_from : Record → Checked Play
-play_from (record_case.Header t) = refused MARK
-play_from (record_case.Break b) = refused MARK
-play_from (record_case.Object o) = refused MARK
-play_from (record_case.Play p) = good p
-
-abbrev pub play_taken : Checked (Record × ℕ) → Checked Play
-play_taken (refused n) = refused n
-play_taken (good r) = play_from r.0
-
-by_content : (x : Content) → play_with x ≡ play_from (content_view x)
-by_content (header t) = refl
-by_content (break b) = refl
-by_content (object o) = refl
-by_content (play p) = refl
-
-taken : (x : FoundRecord) → play_by x ≡ play_taken (record_read x)
-taken (refused n) = refl
-taken (good f) = by_content f.0
+    back : (x : Content) (p : Play) → record_case.Play p ≡ content_view x → good p ≡ play_with x
+    back (header t) p e = never (cc)
+    back (break b) p e = never (cc)
+    back (object o) p e = never (cc)
+    back (play q) p e = let same : p ≡ q = cc in ap good same
 
 pub in_none : (s : List ℕ) (at : ℕ) → length s ≤ at → play_in (drop at s) ≡ refused CUT
-unfolding play_record ◌>>◌ refuse◌when◌
+unfolding play_record mark_in ◌>>=◌ ◌>>◌ refuse◌when◌
 in_none s at h = let e = length-drop at s in rw (lt-ltb (length (drop at s)) 2 (omega (arith, e, h)))
 
-module _ (r : List ℕ) where
-  pub in_cut : length r < 2 → play_in r ≡ refused CUT
-  unfolding play_record ◌>>◌ refuse◌when◌
-  in_cut h = rw (lt-ltb (length r) 2 h)
-
-  pub in_other : 2 ≤ length r → (mark_of (word_at r 0 2) ≡ good mark.Play → ⊥) → play_in r ≡ refused MARK
-  unfolding play_record ◌>>◌ refuse◌when◌
-  in_other two h = rw (le-ltb (length r) 2 two, ne_eqb (word_at r 0 2) PL (λ e. h (ap mark_of e)))
-
-  pub in_play : 2 ≤ length r → mark_of (word_at r 0 2) ≡ good mark.Play → play_in r ≡ play_taken (record_read (play_of r))
-  unfolding play_record ◌>>◌ refuse◌when◌
-  in_play two h = rw (le-ltb (length r) 2 two, word_is (word_at r 0 2) mark.Play h) (taken (play_of r))
-
 -- ---- the next record behind a map or a play
-other_rank : (m : ℕ) → eqb m PL ≡ false → not (in_order play_rank (rank_of m)) ≡ true
-other_rank m e = go (eqb m MH) (eqb m BR) (eqb m CI) (eqb m SL) (eqb m SP) (eqb m PL) e
-  where
-    go : (a b c d f g : Bool) → g ≡ false → not (in_order play_rank (pick a header_rank (pick b break_rank (pick c object_rank (pick d object_rank (pick f object_rank (pick g play_rank no_rank))))))) ≡ true
-    go true b c d f g e = refl
-    go false true c d f g e = refl
-    go false false true d f g e = refl
-    go false false false true f g e = refl
-    go false false false false true g e = refl
-    go false false false false false true e = cc
-    go false false false false false false e = refl
-
--- a play adds no bonus
-free : (c : Counts) → c.bonus ≤ max_bonus → (x : FoundRecord) → All (λ f. PlayOnly f.0 f.1) x
-    → (x >>= (λ f. (refuse BONUS when over_bonus c (content_bonus f.0)) >> good f)) ≡ x
-unfolding ◌>>=◌ ◌>>◌ refuse◌when◌
-free c h (refused n) a = refl
-free c h (good f) a = go f (all_out a)
-  where
-    none_more : c.bonus + 0 ≤ max_bonus
-    none_more = omega (arith, h)
-
-    go : (g : Content × ℕ) → PlayOnly g.0 g.1 → ((refuse BONUS when over_bonus c (content_bonus g.0)) >> good g) ≡ good g
-    go (play p, n) only = rw (le-ltb max_bonus (c.bonus + 0) none_more)
-    go (header _, n) x7 = elim x7 [ ]
-    go (break _, n) x8 = elim x8 [ ]
-    go (object _, n) x9 = elim x9 [ ]
-
-order : (r : List ℕ) (c : Counts) → c.last ≡ play_rank → 2 ≤ length r → not (in_order play_rank (rank_of (word_at r 0 2))) ≡ true → record_of r c ≡ refused MARK
-unfolding record_of ◌>>◌ refuse◌when◌
-order r c l h e = simp (le-ltb (length r) 2 h, l, e)
-
-other_mark : (r : List ℕ) → 2 ≤ length r → eqb (word_at r 0 2) PL ≡ false → play_record r ≡ refused MARK
-unfolding play_record ◌>>◌ refuse◌when◌
-other_mark r h e = simp (le-ltb (length r) 2 h, e)
-
-module _ (r : List ℕ) (c : Counts) (low : c.bonus ≤ max_bonus) where
-  two_bytes : length r < 2 → record_of r c ≡ play_record r
-  unfolding record_of play_record ◌>>◌ refuse◌when◌
-  two_bytes h = rw (lt-ltb (length r) 2 h)
-
-  by_mark : 0 < place c.last → place c.last ≤ 4 → 2 ≤ length r → word_at r 0 2 ≡ PL → record_of r c ≡ play_record r
-  unfolding record_of play_record body_of ◌>>◌ refuse◌when◌
-  by_mark b o h m = simp (le-ltb (length r) 2 h, m, lt-ltb 0 (place c.last) b, le-leb (place c.last) 4 o) (free c low (play_of r) (body_only r))
-
-  by_other : c.last ≡ play_rank → 2 ≤ length r → eqb (word_at r 0 2) PL ≡ false → record_of r c ≡ play_record r
-  by_other l h e = found ∙ sym told
+-- behind a play no other record can stand; behind a map a play does
+module _ (r : List ℕ) (c : Counts) (low : c.bonus ≤ max_bonus) (begun : 0 < place c.last) (order : place c.last ≤ 4) where
+  free : All (λ f. content_bonus f.0 ≡ 0) (play_of r)
+  free = all_map (play_of r) (body_only r) (λ f a. by_content f.0 f.1 a)
     where
-      found : record_of r c ≡ refused MARK
-      found = order r c l h (other_rank (word_at r 0 2) e)
+      by_content : (x : Content) (n : ℕ) → PlayOnly x n → content_bonus x ≡ 0
+      by_content (play p) n only = refl
+      by_content (header _) n x4 = elim x4 [ ]
+      by_content (break _) n x5 = elim x5 [ ]
+      by_content (object _) n x6 = elim x6 [ ]
 
-      told : play_record r ≡ refused MARK
-      told = other_mark r h e
+  behind_play : record_with r c mark.Play ≡ play_of r
+  unfolding body_of ◌>>◌ refuse◌when◌
+  behind_play = simp (lt-ltb 0 (place c.last) begun, le-leb (place c.last) 4 order) (no_bonus c low (play_of r) free)
 
-  -- behind a play no other record can stand; behind a map a play does
-  next_record : 0 < place c.last → place c.last ≤ 4 → ((word_at r 0 2 ≡ PL → ⊥) → c.last ≡ play_rank) → record_of r c ≡ play_record r
-  next_record b o h = by_length (ltb (length r) 2) refl
+  next_record : ((word_at r 0 2 ≡ PL → ⊥) → c.last ≡ play_rank) → record_of r c ≡ play_record r
+  unfolding play_record ◌>>=◌ ◌>>◌ refuse◌when◌
+  next_record h = record_by_mark r c ∙ go (mark_in r) refl
     where
-      by_play : 2 ≤ length r → (x : Bool) → eqb (word_at r 0 2) PL ≡ x → record_of r c ≡ play_record r
-      by_play l true e = by_mark b o l (eqb-true (word_at r 0 2) PL e)
-      by_play l false e = by_other (h (eqb-false (word_at r 0 2) PL e)) l e
+      other : (m : Mark) → mark_in r ≡ good m → (PL ≡ word_of m → ⊥) → c.last ≡ play_rank
+      other m e n = h (λ k. n (sym k ∙ mark_word r m e))
 
-      by_length : (x : Bool) → ltb (length r) 2 ≡ x → record_of r c ≡ play_record r
-      by_length true e = two_bytes (ltb-true (length r) 2 e)
-      by_length false e = by_play (ltb-false (length r) 2 e) (eqb (word_at r 0 2) PL) refl
+      by_mark : (m : Mark) → mark_in r ≡ good m → record_with r c m ≡ play_marked r m
+      by_mark mark.Play e = behind_play
+      by_mark mark.Header e = rw (other mark.Header e (λ k. omega (arith, k)))
+      by_mark mark.Break e = rw (other mark.Break e (λ k. omega (arith, k)))
+      by_mark mark.Circle e = rw (other mark.Circle e (λ k. omega (arith, k)))
+      by_mark mark.Slider e = rw (other mark.Slider e (λ k. omega (arith, k)))
+      by_mark mark.Spinner e = rw (other mark.Spinner e (λ k. omega (arith, k)))
+
+      go : (x : Checked Mark) → mark_in r ≡ x → (x >>= record_with r c) ≡ (x >>= play_marked r)
+      go (refused n) e = refl
+      go (good m) e = by_mark m e
 
 -- ---- a reader of plays
 module _ {s : List ℕ} {p : ℕ} {m : Map} (k : MapIs s p m) where

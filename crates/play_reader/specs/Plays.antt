@@ -1,13 +1,12 @@
 -- Document 01, "Records of the map file": "any PL" behind the objects. What the code reads of them, and what that says of the file.
-use Rattle.std.specs.Prelude.{ℕ, ◌≤◌, ◌<◌, ◌≡◌, not, List, eqb, length}
-use Rattle.numbers.specs.Words.{word_at}
-use Rattle.rules.specs.Limits.{mark_size}
-use Rattle.rules.specs.Refusals.{good, refused, ◌>>◌, refuse◌when◌, CUT, MARK, Checked, OrRefusal, refusal_at}
+use Rattle.std.specs.Prelude.{ℕ, ◌≤◌, ◌<◌, ◌≡◌, List, length}
+use Rattle.rules.specs.Refusals.{good, refused, ◌>>=◌, MARK, Checked, OrRefusal, refusal_at}
 use Rattle.rules.specs.declared.refusal.Rule.{Rule}
 use Rattle.play_state.specs.declared.Play.{Play}
-use Rattle.records.specs.Fields.{cut}
-use Rattle.records.specs.Marks.{PL}
-use Rattle.records.specs.Records.{Content, header, break, object, play, FoundRecord, play_of}
+use Rattle.records.specs.Marks.{mark_in}
+use Rattle.records.specs.declared.mark.Mark.{Mark}
+use Rattle.records.specs.declared.mark.Mark.TheVariants as mark
+use Rattle.records.specs.Records.{Content, play, FoundRecord, play_of}
 use Rattle.map_file.specs.Order.{play_rank}
 use Rattle.map_file.specs.File.{File, refused_at, file_of}
 use Rattle.map_file.proofs.Reading.{Chain}
@@ -15,23 +14,20 @@ use Rattle.map_reader.specs.Map.{MapIs}
 use Rattle.map_reader.specs.declared.map.Map.{Map}
 
 -- the record of a play; no other can stand behind a play
+abbrev pub play_marked : List ℕ → Mark → FoundRecord
+play_marked r mark.Play = play_of r
+play_marked r other = refused MARK
+
 unfoldable pub play_record : List ℕ → FoundRecord
-play_record r = do
-  refuse CUT when cut r mark_size
-  refuse MARK when not (eqb (word_at r 0 2) PL)
-  play_of r
+play_record r = mark_in r >>= play_marked r
 
 -- behind the map only plays are in order
 abbrev pub play_with : Content → Checked Play
 play_with (play p) = good p
 play_with other = refused MARK
 
-abbrev pub play_by : FoundRecord → Checked Play
-play_by (refused n) = refused n
-play_by (good f) = play_with f.0
-
 abbrev pub play_in : List ℕ → Checked Play
-play_in r = play_by (play_record r)
+play_in r = play_record r >>= (λ found. play_with found.0)
 
 -- where a reader of plays stands: at the map's end, or behind a play
 pub data Place (map f : File) : Type 0 where

@@ -8,17 +8,15 @@ ghost use Rattle.play_reader.specs.View.{last_rank, reader_in, answer_of, simula
 
 use map_file::file::{Counts, Rank, Reader};
 use map_reader::attributes::attributes_of;
-use map_reader::map::{Map, rank_behind, read_passed};
-use numbers::words::word_at;
+use map_reader::map::{ALL_OBJECTS, Map, rank_behind, read_passed};
 use play_state::Play;
 use records::mark::Mark;
 use records::play_record::read_play;
-use records::record::Record;
 use rules::refusal::{Refusal, Rule};
 use simulator::attributes::ScoreAttributes;
 
 // The play that stands at an offset, behind a map or another play.
-#[tactic(auto, using(map_file::proofs::Steps::rest_is, crate::proofs::Playing::in_none, crate::proofs::Playing::in_cut, crate::proofs::Playing::in_other, crate::proofs::Playing::in_play))]
+#[tactic(auto, using(map_file::proofs::Steps::rest_is, rules::proofs::Steps::steps, crate::proofs::Playing::in_none, crate::proofs::Playing::play_alone), unfolding(crate::specs::Plays::play_record))]
 pub fn play_at(s: &[u8], at: usize) -> Result<Play, Rule>
     ensures { result ≡ play_in (drop at s.now) }
 {
@@ -26,16 +24,10 @@ pub fn play_at(s: &[u8], at: usize) -> Result<Play, Rule>
         return Err(Rule::Cut);
     }
     let r = &s[at..];
-    if r.len() < 2 {
-        return Err(Rule::Cut);
-    }
-    if Mark::try_from(word_at(r, 0, 2)) != Ok(Mark::Play) {
+    if Mark::read(r)? != Mark::Play {
         return Err(Rule::Mark);
     }
-    match read_play(r)? {
-        (Record::Play(play), _) => Ok(play),
-        (Record::Header(_) | Record::Break(_) | Record::Object(_), _) => Err(Rule::Mark),
-    }
+    read_play(r)
 }
 
 // The map of a file behind which only good records of plays stand, each play by its own fields alone.
@@ -59,7 +51,8 @@ fn last_rank(s: &[u8], map: Map) -> Rank
     rank_behind(map.breaks.count, map.objects)
 }
 
-// The reader behind a file's last record.
+// The reader behind a file's last record. Made here and not from `reader_behind` of map_reader, since only the settings, the breaks and the bonus are
+// the same: the map keeps its count of objects, and not the state behind them all.
 fn reader_in(s: &[u8], map: Map) -> Reader
     ensures { result ≡ reader_in (length s.now) map }
 {
@@ -80,7 +73,7 @@ fn reader_in(s: &[u8], map: Map) -> Reader
 pub fn read_map(s: &[u8]) -> Result<Reader, Refusal>
     ensures { result ≡ answer_of (file_of s.now) }
 {
-    let map = read_file(s, u64::MAX)?;
+    let map = read_file(s, ALL_OBJECTS)?;
     Ok(reader_in(s, map))
 }
 

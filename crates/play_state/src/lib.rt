@@ -60,6 +60,7 @@ impl Play {
 }
 
 // The bit at a place below 16.
+#[tactic(auto, unfolding(crate::specs::Play::flag_at))]
 fn flag(flags: u16, place: u16) -> bool
     requires { place < 16 }
     ensures { result ≡ flag_at place flags }
@@ -78,6 +79,7 @@ impl GameMods {
 }
 
 // Whether a bit above the known ones is set.
+#[tactic(auto, unfolding(crate::specs::Play::flags_bad))]
 pub fn has_unknown_flags(flags: u16) -> bool
     ensures { result ≡ flags_bad flags }
 {

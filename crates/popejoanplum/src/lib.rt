@@ -89,7 +89,7 @@ pub extern "C" fn pjp_score_play_breaks(
 
 // For each play what `pjp_score_play` answers, in their order. Outcomes beyond the last play stay, and all of them where the call is refused. By index,
 // since std says nothing of what is written through a `zip` of `iter_mut`.
-#[tactic(auto, using(heat::proofs::Loop::none_yet))]
+#[tactic(auto, using(heat::proofs::Loop::none_yet, rules::proofs::Steps::steps))]
 #[unsafe(no_mangle)]
 pub extern "C" fn pjp_heat(file: &[u8], plays: &[HostPlay], outcomes: &mut [PlayAnswer]) -> Status
     ensures { (result, outcomes.new) ≡ heat_of (scores_of (file_of file.now)) plays.now outcomes.old }

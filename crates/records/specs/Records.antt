@@ -1,6 +1,6 @@
 -- Document 01, "Records of the map file": each record from its mark on, with its size. The checks stand in the document's order: fixed part
 -- cut (2), fixed fields in layout order (4 or 8, a nested count 6), nested list cut (2), nested list (5).
-use Rattle.std.specs.Prelude.{ℕ, ◌+◌, List, [], ◌∷◌, eqb, ltb, take, drop, Option, Some, None}
+use Rattle.std.specs.Prelude.{ℕ, ◌+◌, List, [], ◌∷◌, eqb, ltb, take, drop, Option, Some, None, Float}
 use Rattle.rules.specs.Limits.{max_nested, header_size, break_size, circle_size, slider_size, spinner_size, play_size}
 use Rattle.numbers.specs.Words.{word_at}
 use Rattle.rules.specs.Refusals.{Checked, good, refused, ◌>>=◌, ◌>>◌, refuse◌when◌, pick, CUT, MARK, NESTED, COUNT, PLAY_FIELD}
@@ -11,6 +11,10 @@ use Rattle.play_state.specs.Play.{origin_of, score_of, flags_bad, hitresults_of,
 use Rattle.records.specs.declared.beatmap.Settings.{Settings}
 use Rattle.records.specs.declared.beatmap.BreakPeriod.{BreakPeriod}
 use Rattle.records.specs.declared.hit_object.Slider.{Slider}
+use Rattle.records.specs.declared.hit_object.Spinner.{Spinner}
+use Rattle.records.specs.declared.hit_object.HitObject.{HitObject}
+use Rattle.records.specs.declared.hit_object.HitObjectKind.{HitObjectKind}
+use Rattle.records.specs.declared.hit_object.HitObjectKind.TheVariants as kind
 use Rattle.play_state.specs.declared.Play.{Play}
 use Rattle.records.specs.declared.record.Record.{Record}
 use Rattle.records.specs.declared.record.Record.TheVariants.{Header, Break, Object as ObjectRecord, Play as PlayRecord}
@@ -115,6 +119,38 @@ content_view (play p) = PlayRecord p
 abbrev pub record_read : FoundRecord → Checked (Record × ℕ)
 record_read (refused n) = refused n
 record_read (good f) = good (content_view f.0, f.1)
+
+-- what the reader of one kind gives, as a record and its size
+abbrev pub header_read : Checked Settings → Checked (Record × ℕ)
+header_read (refused n) = refused n
+header_read (good t) = good (Header t, header_size)
+
+abbrev pub break_read : Checked BreakPeriod → Checked (Record × ℕ)
+break_read (refused n) = refused n
+break_read (good b) = good (Break b, break_size)
+
+abbrev pub object_at : Float → HitObjectKind → Record
+object_at start k = ObjectRecord (record { start_time = start; kind = k })
+
+abbrev pub circle_read : Checked Float → Checked (Record × ℕ)
+circle_read (refused n) = refused n
+circle_read (good start) = good (object_at start kind.Circle, circle_size)
+
+abbrev pub slider_read : Checked (Float × Slider × ℕ) → Checked (Record × ℕ)
+slider_read (refused n) = refused n
+slider_read (good (start, s, n)) = good (object_at start (kind.Slider s), n)
+
+abbrev pub spinner_read : Checked (Float × Spinner) → Checked (Record × ℕ)
+spinner_read (refused n) = refused n
+spinner_read (good (start, s)) = good (object_at start (kind.Spinner s), spinner_size)
+
+abbrev pub object_read : Checked (HitObject × ℕ) → Checked (Record × ℕ)
+object_read (refused n) = refused n
+object_read (good (o, n)) = good (ObjectRecord o, n)
+
+abbrev pub play_read : Checked Play → Checked (Record × ℕ)
+play_read (refused n) = refused n
+play_read (good p) = good (PlayRecord p, play_size)
 
 -- the object behind a mark
 unfoldable pub object_of : List ℕ → ℕ → FoundRecord

@@ -1,4 +1,4 @@
-// The float fields of a record, each held to the range of its rule.
+// The fields of a record: numbers, and floats, each held to the range of its rule.
 ghost use Rattle.std.specs.Prelude.{◌≡◌};
 ghost use Rattle.numbers.specs.Words.{word_at};
 ghost use Rattle.records.specs.Fields.{within, is_time, is_duration, is_rate, is_setting, time_of, duration_of, rate_of, setting_of};
@@ -52,6 +52,18 @@ pub fn is_setting(x: f32) -> bool
     (x >= 0.0) & (x <= SETTING_LIMIT)
 }
 
+pub(crate) fn u16_at(r: &[u8], at: usize) -> u16
+    ensures { result ≡ word_at r.now at 2 }
+{
+    word_at(r, at, 2) as u16
+}
+
+pub(crate) fn u32_at(r: &[u8], at: usize) -> u32
+    ensures { result ≡ word_at r.now at 4 }
+{
+    word_at(r, at, 4) as u32
+}
+
 pub fn time_at(r: &[u8], at: usize) -> Option<f64>
     ensures { result ≡ time_of (word_at r.now at 8) }
 {
@@ -82,6 +94,6 @@ pub fn rate_at(r: &[u8], at: usize) -> Option<f64>
 pub fn setting_at(r: &[u8], at: usize) -> Option<f32>
     ensures { result ≡ setting_of (word_at r.now at 4) }
 {
-    let x = f32_from_bits_with_nan(word_at(r, at, 4) as u32);
+    let x = f32_from_bits_with_nan(u32_at(r, at));
     is_setting(x).then_some(x)
 }

@@ -1,7 +1,8 @@
 // The first two bytes of a record, which say what it is.
 ghost use Rattle.std.specs.Prelude.{◌≡◌};
-ghost use Rattle.records.specs.Marks.{mark_of};
+ghost use Rattle.records.specs.Marks.{mark_of, mark_in};
 
+use numbers::words::word_at;
 use rules::refusal::Rule;
 
 // The objects' marks in ASCII, as little-endian numbers. The loop over a map's objects tells them by these, since with a match on the enum it takes
@@ -38,5 +39,18 @@ impl TryFrom<u64> for Mark {
             0x4c50 => Ok(Mark::Play), // PL
             _ => Err(Rule::Mark),
         }
+    }
+}
+
+impl Mark {
+    // Of the record that r starts with.
+    #[tactic(auto, using(rules::proofs::Steps::steps), unfolding(crate::specs::Marks::mark_in))]
+    pub fn read(r: &[u8]) -> Result<Mark, Rule>
+        ensures { result ≡ mark_in r.now }
+    {
+        if r.len() < 2 {
+            return Err(Rule::Cut);
+        }
+        Mark::try_from(word_at(r, 0, 2))
     }
 }

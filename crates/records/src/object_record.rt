@@ -1,12 +1,12 @@
 // The record of an object.
 ghost use Rattle.std.specs.Prelude.{◌≡◌, ◌≤◌, length};
 ghost use Rattle.rules.specs.Limits.{max_nested};
-ghost use Rattle.records.specs.Records.{record_read, nested_view, nested_of, circle_of, slider_of, spinner_of, object_of};
+ghost use Rattle.records.specs.Records.{record_read, object_read, nested_view, nested_of, circle_read, circle_of, slider_read, slider_of, spinner_read, spinner_of, object_of};
+ghost use Rattle.records.specs.Marks.{word_of};
 
 use crate::fields;
 use crate::hit_object::{HitObject, HitObjectKind, Slider, Spinner};
 use crate::mark::Mark;
-use crate::record::{Read, Record};
 use numbers::words::word_at;
 use rules::refusal::Rule;
 
@@ -39,24 +39,21 @@ fn count_nested(items: &[u8]) -> Option<Slider>
     Some(Slider { repeats, ticks })
 }
 
+// The start of a circle.
 #[tactic(auto, using(rules::proofs::Steps::steps), unfolding(crate::specs::Records::circle_of))]
-pub fn read_circle(r: &[u8]) -> Read
-    ensures { result ≡ record_read (circle_of r.now) }
+pub fn read_circle(r: &[u8]) -> Result<f64, Rule>
+    ensures { circle_read result ≡ record_read (circle_of r.now) }
 {
     if r.len() < HitObject::CIRCLE_SIZE {
         return Err(Rule::Cut);
     }
-    let start_time = fields::time_at(r, 2).ok_or(Rule::Range)?;
-    let object = HitObject {
-        start_time,
-        kind: HitObjectKind::Circle,
-    };
-    Ok((Record::Object(object), HitObject::CIRCLE_SIZE))
+    fields::time_at(r, 2).ok_or(Rule::Range)
 }
 
+// The start of a slider, its items and the size of its record.
 #[tactic(auto, using(rules::proofs::Steps::steps), unfolding(crate::specs::Records::slider_of))]
-pub fn read_slider(r: &[u8]) -> Read
-    ensures { result ≡ record_read (slider_of r.now) }
+pub fn read_slider(r: &[u8]) -> Result<(f64, Slider, usize), Rule>
+    ensures { slider_read result ≡ record_read (slider_of r.now) }
 {
     if r.len() < HitObject::SLIDER_SIZE {
         return Err(Rule::Cut);
@@ -71,38 +68,49 @@ pub fn read_slider(r: &[u8]) -> Read
         return Err(Rule::Cut);
     }
     let slider = count_nested(&r[HitObject::SLIDER_SIZE..end]).ok_or(Rule::Nested)?;
-    let object = HitObject {
-        start_time,
-        kind: HitObjectKind::Slider(slider),
-    };
-    Ok((Record::Object(object), end))
+    Ok((start_time, slider, end))
 }
 
 #[tactic(auto, using(rules::proofs::Steps::steps), unfolding(crate::specs::Records::spinner_of))]
-pub fn read_spinner(r: &[u8]) -> Read
-    ensures { result ≡ record_read (spinner_of r.now) }
+pub fn read_spinner(r: &[u8]) -> Result<(f64, Spinner), Rule>
+    ensures { spinner_read result ≡ record_read (spinner_of r.now) }
 {
     if r.len() < HitObject::SPINNER_SIZE {
         return Err(Rule::Cut);
     }
     let start_time = fields::time_at(r, 2).ok_or(Rule::Range)?;
     let duration = fields::duration_at(r, 10).ok_or(Rule::Range)?;
-    let object = HitObject {
-        start_time,
-        kind: HitObjectKind::Spinner(Spinner { duration }),
-    };
-    Ok((Record::Object(object), HitObject::SPINNER_SIZE))
+    Ok((start_time, Spinner { duration }))
 }
 
-// The object behind a mark; any other mark is refused as unknown.
+// The object of a mark's kind and the size of its record; a mark of no object is refused as unknown. Into each of its callers, so that an edit makes
+// no call for it.
 #[tactic(auto, unfolding(crate::specs::Records::object_of))]
-pub fn read_object(r: &[u8], mark: u64) -> Read
-    ensures { result ≡ record_read (object_of r.now mark) }
+#[inline(always)]
+pub fn read_kind(r: &[u8], mark: Mark) -> Result<(HitObject, usize), Rule>
+    ensures { object_read result ≡ record_read (object_of r.now (word_of mark)) }
 {
-    match Mark::try_from(mark)? {
-        Mark::Circle => read_circle(r),
-        Mark::Slider => read_slider(r),
-        Mark::Spinner => read_spinner(r),
-        Mark::Header | Mark::Break | Mark::Play => Err(Rule::Mark),
-    }
+    let (start_time, kind, size) = match mark {
+        Mark::Circle => (
+            read_circle(r)?,
+            HitObjectKind::Circle,
+            HitObject::CIRCLE_SIZE,
+        ),
+        Mark::Slider => {
+            let (start_time, slider, size) = read_slider(r)?;
+            (start_time, HitObjectKind::Slider(slider), size)
+        }
+        Mark::Spinner => {
+            let (start_time, spinner) = read_spinner(r)?;
+            (
+                start_time,
+                HitObjectKind::Spinner(spinner),
+                HitObject::SPINNER_SIZE,
+            )
+        }
+        Mark::Header | Mark::Break | Mark::Play => {
+            return Err(Rule::Mark);
+        }
+    };
+    Ok((HitObject { start_time, kind }, size))
 }

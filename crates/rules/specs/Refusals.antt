@@ -13,11 +13,12 @@ infixr 4 ◌>>◌
 abbrev pub Checked : Type 0 → Type 0
 Checked A = Result A Rule
 
-unfoldable pub ◌>>=◌ : {A B : Type 0} → Checked A → (A → Checked B) → Checked B
+-- of a refusal with an offset too
+unfoldable pub ◌>>=◌ : {A B E : Type 0} → Result A E → (A → Result B E) → Result B E
 ◌>>=◌ (refused n) f = refused n
 ◌>>=◌ (good a) f = f a
 
-unfoldable pub ◌>>◌ : {A B : Type 0} → Checked A → Checked B → Checked B
+unfoldable pub ◌>>◌ : {A B E : Type 0} → Result A E → Result B E → Result B E
 ◌>>◌ (refused n) b = refused n
 ◌>>◌ (good a) b = b
 
@@ -116,7 +117,11 @@ refusal_at n at = record { rule = n; offset = at }
 abbrev pub OrRefusal : Type 0 → Type 0
 OrRefusal A = Result A Refusal
 
+-- what breaks a rule is refused at the offset of its record
+abbrev pub at_offset : {A : Type 0} → ℕ → Checked A → OrRefusal A
+at_offset at (refused n) = refused (refusal_at n at)
+at_offset at (good a) = good a
+
 -- what is no record of a file is refused at 0
 abbrev pub at_0 : {A : Type 0} → Checked A → OrRefusal A
-at_0 (refused n) = refused (refusal_at n 0)
-at_0 (good a) = good a
+at_0 x = at_offset 0 x

@@ -2,23 +2,23 @@
 ghost use Rattle.std.specs.Prelude.{◌≡◌};
 ghost use Rattle.rules.specs.Refusals.{number_of, refusal_at};
 
-// rules/specs/Refusals says when each is given.
+// By its number in documents 01 and 02, where rules/specs/Refusals says when each is given. 10 is given by no call.
 #[derive(Clone, Copy, Debug, PartialEq, Eq, Hash)]
 pub enum Rule {
-    Input,
-    Cut,
-    Mark,
-    Range,
-    Nested,
-    Count,
-    Bonus,
-    PlayField,
-    PlayExceeds,
-    Room,
-    Place,
-    Board,
-    Factor,
-    Heat,
+    Input = 1,
+    Cut = 2,
+    Mark = 3,
+    Range = 4,
+    Nested = 5,
+    Count = 6,
+    Bonus = 7,
+    PlayField = 8,
+    PlayExceeds = 9,
+    Room = 11,
+    Place = 12,
+    Board = 13,
+    Factor = 14,
+    Heat = 15,
 }
 
 // A refused call: the rule, and the offset of the record that breaks it.
@@ -36,27 +36,11 @@ impl Rule {
     }
 }
 
-// The rule's number in documents 01 and 02. 10 is given by no call.
 impl From<Rule> for u8 {
     ghost from_gives = { λ rule n. n ≡ number_of rule };
 
     fn from(rule: Rule) -> u8 {
-        match rule {
-            Rule::Input => 1,
-            Rule::Cut => 2,
-            Rule::Mark => 3,
-            Rule::Range => 4,
-            Rule::Nested => 5,
-            Rule::Count => 6,
-            Rule::Bonus => 7,
-            Rule::PlayField => 8,
-            Rule::PlayExceeds => 9,
-            Rule::Room => 11,
-            Rule::Place => 12,
-            Rule::Board => 13,
-            Rule::Factor => 14,
-            Rule::Heat => 15,
-        }
+        rule as u8
     }
 }
 

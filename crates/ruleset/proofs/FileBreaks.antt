@@ -2,6 +2,7 @@
 use Rattle.std.specs.Prelude.{Option, Some, None}
 use Rattle.std.proofs.Common.{◌≡◌, ℕ, zero, suc, ◌+◌, ◌*◌, ◌<◌, ◌≤◌, Bool, true, false, ◌&&◌, eqb, ltb, leb, List, [], ◌∷◌, ◌++◌, length, drop, sym, refl, ap, ◌∙◌, arith, ltb-true, eqb-true, leb-true}
 use borrow.Author.Tests.{not-false}
+use Rattle.std.proofs.lemmas.Bool.{and_parts}
 use lib.Ieee.{binary64, of_bits, neg, le}
 use Rattle.numbers.specs.Words.{word_at}
 use Rattle.numbers.proofs.words.Laws.{word_at-drop}
@@ -57,13 +58,9 @@ Placed r last (break b) n = (0 < place last) × (place last ≤ 2) × (n ≡ 18)
 Placed r last (object o) n = Unit
 Placed r last (play p) n = Unit
 
-both : (a b : Bool) → (a && b) ≡ true → (a ≡ true) × (b ≡ true)
-both true b e = (refl, e)
-both false b e = absurd (let z : ◌≡◌ {A = ℕ} 0 1 = cc in omega arith)
-
 placed : (r : List ℕ) (last : Option Rank) (m : ℕ) (x : Content) (n : ℕ) → in_order last (rank_of m) ≡ true → Marked r m x n → Placed r last x n
 placed r last m (header s) n o h = (none_is last (rw h.0 at o), h.1)
-placed r last m (break b) n o h = let p = both (ltb 0 (place last)) (leb (place last) 2) (rw h.0 at o) in (ltb-true 0 (place last) p.0, leb-true (place last) 2 p.1, h.1, h.2)
+placed r last m (break b) n o h = let p = and_parts (ltb 0 (place last)) (leb (place last) 2) (rw h.0 at o) in (ltb-true 0 (place last) p.0, leb-true (place last) 2 p.1, h.1, h.2)
 placed r last m (object o) n e h = tt
 placed r last m (play p) n e h = tt
 

@@ -2,6 +2,7 @@
 -- last bound, 52 / 38 × 5, rounds to 7. Assumes nothing.
 use Rattle.std.proofs.Common.{◌≡◌, ℕ, zero, suc, ◌+◌, ◌-◌, ◌*◌, ◌^◌, ◌<◌, ◌≤◌, min, Bool, true, false, cond, not, T, eqb, ltb, ℤ, pos, negsuc, nat_abs, sym, refl, ap, subst, true≢false, zero-le, le_trans, zero-lt-suc, mul-pos, arith, lit≤, ltb-false}
 use lib.Dec.{eqb-suc-zero}
+use Rattle.std.proofs.lemmas.Bool.{and_parts}
 use lib.Signed.{mag}
 use lib.Ieee.{Float, nan, inf, fin, Format, binary64, prec, emax, low, unlike, up, down, round, units, odd, add, mul, div, lt, of_int, of_bits, is_nan}
 use lib.Ieee.Back.{round_whole}
@@ -13,8 +14,9 @@ use Rattle.numbers.specs.Floats.{whole}
 use Rattle.numbers.specs.MinMax.{clamp_of}
 use Rattle.numbers.specs.Rounding.{round_ties_even_i32, saturated}
 use Rattle.numbers.proofs.Bounds.{Upto, mul_upto, div_upto, add_upto, of_tests, of_itself}
-use Rattle.ruleset.specs.Stars.{SettingIn, SettingsIn, ratio_of, stars_of, multiplier_of}
-use Rattle.encoding.specs.Limits.{SettingsWithin}
+use Rattle.ruleset.specs.Stars.{SettingsIn, ratio_of, stars_of, multiplier_of}
+use Rattle.records.specs.Fields.{is_setting}
+use Rattle.encoding.specs.Limits.{IsSetting, SettingsWithin}
 use Rattle.records.specs.declared.beatmap.Settings.{Settings}
 
 -- ---- no NaN
@@ -126,13 +128,16 @@ round_upto (fin false m e) M E h =
 abbrev twelve : Float
 twelve = fin false 3 (pos 2)
 
-setting : (x : Float) → SettingIn x → Upto x twelve
+setting : (x : Float) → is_setting x ≡ true → Upto x twelve
 unfolding of_bits
-setting x w = of_tests x twelve tt (subst T (sym w.0) tt) (subst T (sym w.1) tt)
+setting x w = let p = and_parts _ _ w in of_tests x twelve tt (subst T (sym p.0) tt) (subst T (sym p.1) tt)
+
+setting_in : {x : Float} → IsSetting x → is_setting x ≡ true
+setting_in w = simp (w.above, w.below)
 
 -- those of a file are
 pub settings_in_lem : (s : Settings) → SettingsWithin s → SettingsIn s
-settings_in_lem s w = record { hp = (w.hp.above, w.hp.below); od = (w.od.above, w.od.below); cs = (w.cs.above, w.cs.below) }
+settings_in_lem s w = record { hp = setting_in w.hp; od = setting_in w.od; cs = setting_in w.cs }
 
 -- the stars of settings in their range: a number from 0 to 7
 pub stars_upto : (s : Settings) (k : ℕ) (z : ℤ) → SettingsIn s → k ≤ 2 ^ 53 → mag z < 2 ^ 53 → (n : ℕ) × (stars_of s k z ≡ pos n) × (n ≤ 7)

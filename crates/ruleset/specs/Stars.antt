@@ -1,8 +1,8 @@
 -- Document 01, "Multiplier": `calculate_difficulty_peppy_stars`, each operation rounded once, in the Rust's order.
-use Rattle.std.specs.Prelude.{◌≡◌, ℕ, zero, suc, true, length, take, ℤ, pos, negsuc, from_bits, unsigned_abs, Float}
-use Rattle.std.specs.Float.{binary32, binary64}
-use Rattle.std.specs.Float.Ieee.{of_int, le}
-use Rattle.records.specs.Fields.{setting_limit}
+use Rattle.std.specs.Prelude.{◌≡◌, ℕ, zero, suc, true, length, take, ℤ, pos, negsuc, unsigned_abs, Float}
+use Rattle.std.specs.Float.{binary64}
+use Rattle.std.specs.Float.Ieee.{of_int}
+use Rattle.records.specs.Fields.{is_setting}
 use Rattle.numbers.specs.Floats.{whole, ◌⊕◌, ◌⊗◌, ◌⊘◌}
 use Rattle.numbers.specs.MinMax.{clamp_of}
 use Rattle.numbers.specs.Rounding.{round_ties_even_i32}
@@ -21,13 +21,10 @@ unfoldable pub stars_of : Settings → ℕ → ℤ → ℤ
 stars_of s count drain = round_ties_even_i32 ((s.hp ⊕ s.od ⊕ s.cs ⊕ ratio_of count drain) ⊘ whole 38 ⊗ whole 5)
 
 -- "three floats of 32 bits, each from 0 to 12"
-abbrev pub SettingIn : Float → Type 0
-SettingIn x = (le (from_bits binary32 0) x ≡ true) × (le x setting_limit ≡ true)
-
 pub record SettingsIn (s : Settings) : Type 0 where
-  pub hp : SettingIn s.hp
-  pub od : SettingIn s.od
-  pub cs : SettingIn s.cs
+  pub hp : is_setting s.hp ≡ true
+  pub od : is_setting s.od ≡ true
+  pub cs : is_setting s.cs ≡ true
 
 -- the stars as a count: settings within their limits give 0 to 7
 abbrev pub multiplier_of : Settings → ℕ → ℤ → ℕ

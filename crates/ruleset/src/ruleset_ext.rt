@@ -7,6 +7,7 @@ use numbers::rounding::round_ties_even_i32;
 use records::beatmap::Settings;
 use std::num::{nearest_i64_to_f64, nearest_u64_to_f64};
 
+#[tactic(auto, using(crate::proofs::Ratios::at_zero, crate::proofs::Ratios::at_other, crate::proofs::Signs::kept), unfolding(numbers::proofs::Literals::of_bits, numbers::proofs::Literals::of_int))]
 fn object_to_drain_ratio(object_count: u64, drain_len: i64) -> f64
     ensures { result ≡ ratio_of object_count drain_len }
 {
@@ -21,6 +22,8 @@ fn object_to_drain_ratio(object_count: u64, drain_len: i64) -> f64
     }
 }
 
+// A count of objects beside a drain, as in the Rust's function of this name.
+#[tactic(auto, unfolding(crate::specs::Stars::stars_of, numbers::proofs::Literals::of_bits, numbers::proofs::Literals::of_int))]
 pub fn calculate_difficulty_peppy_stars(
     settings: Settings,
     object_count: u64,

@@ -13,33 +13,54 @@ use numbers::words::word_at;
 use records::beatmap::{BreakCount, BreakPeriod, Settings};
 use std::num::f64_from_bits_with_nan;
 
+// The length of a map's breaks in milliseconds, below 0 where they end before their starts.
+#[derive(Clone, Copy)]
+pub struct BreaksLen {
+    pub milliseconds: i64,
+    ghost short: { mag milliseconds ≤ 2 ^ 41 },
+}
+
+// The seconds from the first to the last start, without the breaks.
+#[derive(Clone, Copy)]
+pub struct DrainLen {
+    pub seconds: i64,
+    ghost short: { mag seconds < 2 ^ 42 },
+}
+
+// What ScoreV1 multiplies the points of a combo by: the difficulty stars.
+#[derive(Clone, Copy)]
+pub struct Multiplier {
+    pub value: u64,
+    ghost small: { value ≤ 7 },
+}
+
 // The milliseconds from one time to another, each rounded to a whole number.
 pub fn length_between(start: f64, end: f64) -> i64
     ensures { (result ≡ length_of start end) × (mag result < 2 ^ 33) }
 {
-    round_ties_even_i32(end) as i64 - round_ties_even_i32(start) as i64
+    i64::from(round_ties_even_i32(end)) - i64::from(round_ties_even_i32(start))
 }
 
 // The length of breaks, until the first whose end is not before the last start.
-fn len_before<I: Iterator<Item = BreakPeriod> + Drop>(breaks: I, last_start: f64) -> i64
+fn len_before<I: Iterator<Item = BreakPeriod> + Drop>(breaks: I, last_start: f64) -> BreaksLen
     requires { I.can_next breaks × UpTo (I.remaining breaks) max_breaks }
-    ensures { ((periods : List BreakPeriod) → AlwaysYields I.next_gives (λ b. b) breaks periods → result ≡ breaks_length last_start periods) × (mag result ≤ 2 ^ 41) }
+    ensures { (periods : List BreakPeriod) → AlwaysYields I.next_gives (λ b. b) breaks periods → result.milliseconds ≡ breaks_length last_start periods }
 {
-    let mut total: i64 = 0;
+    let mut milliseconds: i64 = 0;
     for period in breaks {
         if period.end_time < last_start {
-            total += length_between(period.start_time, period.end_time);
+            milliseconds += length_between(period.start_time, period.end_time);
         } else {
-            return total;
+            return BreaksLen { milliseconds };
         }
     }
-    total
+    BreaksLen { milliseconds }
 }
 
 // The length of breaks that are given as start, end, start, end; an odd number at the end is left out.
-pub fn break_len(breaks: &[f64], last_start: f64) -> i64
+pub fn break_len(breaks: &[f64], last_start: f64) -> BreaksLen
     requires { length breaks.now ≤ 2 * max_breaks }
-    ensures { (result ≡ breaks_length last_start (breaks_of breaks.now)) × (mag result ≤ 2 ^ 41) }
+    ensures { result.milliseconds ≡ breaks_length last_start (breaks_of breaks.now) }
 {
     let periods = breaks.chunks_exact(2).map(|pair| BreakPeriod {
         start_time: pair[0],
@@ -61,8 +82,8 @@ fn break_at(s: &[u8], place: u64) -> BreakPeriod
 }
 
 // The length of the breaks of a map file before the last start.
-pub fn break_len_in(s: &[u8], breaks: BreakCount, last_start: f64) -> i64
-    ensures { (result ≡ breaks_length last_start (breaks_in s.now breaks.count)) × (mag result ≤ 2 ^ 41) }
+pub fn break_len_in(s: &[u8], breaks: BreakCount, last_start: f64) -> BreaksLen
+    ensures { result.milliseconds ≡ breaks_length last_start (breaks_in s.now breaks.count) }
 {
     len_before(
         (0..breaks.count).map(|place| break_at(s, place)),
@@ -71,16 +92,21 @@ pub fn break_len_in(s: &[u8], breaks: BreakCount, last_start: f64) -> i64
 }
 
 // The seconds from the first to the last start, without the breaks, cut toward zero.
-pub fn drain_len(first_start: f64, last_start: f64, breaks: i64) -> i64
-    requires { mag breaks ≤ 2 ^ 41 }
-    ensures { (result ≡ drain_of first_start last_start breaks) × (mag result < 2 ^ 42) }
+pub fn drain_len(first_start: f64, last_start: f64, breaks: BreaksLen) -> DrainLen
+    ensures { result.seconds ≡ drain_of first_start last_start breaks.milliseconds }
 {
-    (length_between(first_start, last_start) - breaks) / 1000
+    DrainLen {
+        seconds: (length_between(first_start, last_start) - breaks.milliseconds) / 1000,
+    }
 }
 
-pub fn score_multiplier(settings: Settings, object_count: u64, drain_len: i64) -> u64
+// Of any count and drain that a double holds, and so of each `DrainLen`.
+#[tactic(auto, using(crate::proofs::Stars::seven, crate::proofs::Stars::stars_is))]
+pub fn score_multiplier(settings: Settings, object_count: u64, drain_len: i64) -> Multiplier
     requires { SettingsIn settings × (object_count ≤ 2 ^ 53) × (mag drain_len < 2 ^ 53) }
-    ensures { (result ≡ multiplier_of settings object_count drain_len) × (result ≤ 7) }
+    ensures { result.value ≡ multiplier_of settings object_count drain_len }
 {
-    calculate_difficulty_peppy_stars(settings, object_count, drain_len) as u64
+    Multiplier {
+        value: calculate_difficulty_peppy_stars(settings, object_count, drain_len) as u64,
+    }
 }

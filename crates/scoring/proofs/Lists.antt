@@ -5,55 +5,70 @@ use mathlib.Core.List.{List, [], ◌∷◌, ◌++◌}
 use Prim.Native.Nat.{ℕ, zero, suc, ◌-◌}
 use native.Mathlib.Omega.{arith}
 use lib.Dec.{eqb-suc-zero}
-use Rattle.rules.specs.Refusals.{good, refused, pick}
+use Rattle.rules.specs.Refusals.{good, refused, ◌>>=◌, OrRefusal, refusal_at, pick, at_offset}
 use Rattle.map_file.specs.File.{Map}
 use Rattle.play_state.specs.declared.Play.{Play}
-use Rattle.scoring.specs.Scores.{Outcome, refusal, values, at_offset, then, play_score_on, play_scores}
+use Rattle.scoring.specs.Scores.{play_score_on, play_scores}
 use Rattle.scoring.specs.View.{wanted_of, wanted_after}
 use Rattle.play_score.specs.declared.PlayScore.{PlayScore}
 use Rattle.scoring.specs.declared.plays.Wanted.TheVariants as wanted
 
 abbrev Several : Type 0
-Several = Outcome (List PlayScore)
+Several = OrRefusal (List PlayScore)
 
 -- the scores of both parts, the first refusal standing
 abbrev joined : Several → Several → Several
-joined a b = then a (λ ss. then b (λ ts. values (ss ++ ts)))
+joined a b = do
+  ss ← a
+  ts ← b
+  good (ss ++ ts)
 
-joined-none : (b : Several) → b ≡ joined (values []) b
-joined-none (refusal n at) = refl
-joined-none (values ts) = refl
+joined-none : (b : Several) → b ≡ joined (good []) b
+unfolding ◌>>=◌
+joined-none (refused r) = refl
+joined-none (good ts) = refl
 
-joined-one : (a : Outcome PlayScore) (b c : Several) → then a (λ s. then (joined b c) (λ ss. values (s ∷ ss))) ≡ joined (then a (λ s. then b (λ ss. values (s ∷ ss)))) c
-joined-one (refusal n at) b c = refl
-joined-one (values s) (refusal n at) c = refl
-joined-one (values s) (values ss) (refusal n at) = refl
-joined-one (values s) (values ss) (values ts) = refl
+-- a score in front of others
+abbrev in_front : OrRefusal PlayScore → Several → Several
+in_front a b = do
+  s ← a
+  ss ← b
+  good (s ∷ ss)
+
+joined-one : (a : OrRefusal PlayScore) (b c : Several) → in_front a (joined b c) ≡ joined (in_front a b) c
+unfolding ◌>>=◌
+joined-one (refused r) b c = refl
+joined-one (good s) (refused r) c = refl
+joined-one (good s) (good ss) (refused r) = refl
+joined-one (good s) (good ss) (good ts) = refl
 
 pub scores_append : (m : Map) (ps qs : List (ℕ × Play)) → play_scores m (ps ++ qs) ≡ joined (play_scores m ps) (play_scores m qs)
 unfolding play_scores
 scores_append m [] qs = joined-none (play_scores m qs)
 scores_append m (p ∷ ps) qs =
     let first = at_offset p.0 (play_score_on m p.1) in
-    ap (λ (b : Several). then first (λ s. then b (λ ss. values (s ∷ ss)))) (scores_append m ps qs) ∙ joined-one first (play_scores m ps) (play_scores m qs)
+    ap (in_front first) (scores_append m ps qs) ∙ joined-one first (play_scores m ps) (play_scores m qs)
 
-pub scores_one : (m : Map) (at : ℕ) (p : Play) → play_scores m ((at, p) ∷ []) ≡ then (at_offset at (play_score_on m p)) (λ s. values (s ∷ []))
-unfolding play_scores
+pub scores_one : (m : Map) (at : ℕ) (p : Play) → play_scores m ((at, p) ∷ []) ≡ (at_offset at (play_score_on m p) >>= λ s. good (s ∷ []))
+unfolding play_scores ◌>>=◌
 scores_one m at p = refl
 
-pub scores_none : (m : Map) → play_scores m [] ≡ values []
+pub scores_none : (m : Map) → play_scores m [] ≡ good []
 unfolding play_scores
 scores_none m = refl
 
 -- one more play, good or refused
-module _ (m : Map) (at : ℕ) (p : Play) (ps : List (ℕ × Play)) (ss : List PlayScore) (e : play_scores m ps ≡ values ss) where
-  pub scores_more : (s : PlayScore) → play_score_on m p ≡ good s → play_scores m (ps ++ ((at, p) ∷ [])) ≡ values (ss ++ (s ∷ []))
+module _ (m : Map) (at : ℕ) (p : Play) (ps : List (ℕ × Play)) (ss : List PlayScore) (e : play_scores m ps ≡ good ss) where
+  pub scores_more : (s : PlayScore) → play_score_on m p ≡ good s → play_scores m (ps ++ ((at, p) ∷ [])) ≡ good (ss ++ (s ∷ []))
+  unfolding ◌>>=◌
   scores_more s q = rw (scores_append m ps ((at, p) ∷ []), e, scores_one m at p, q)
 
-  pub scores_refused : (n : Rule) → play_score_on m p ≡ refused n → play_scores m (ps ++ ((at, p) ∷ [])) ≡ refusal n at
+  pub scores_refused : (n : Rule) → play_score_on m p ≡ refused n → play_scores m (ps ++ ((at, p) ∷ [])) ≡ refused (refusal_at n at)
+  unfolding ◌>>=◌
   scores_refused n q = rw (scores_append m ps ((at, p) ∷ []), e, scores_one m at p, q)
 
-pub refused_more : (m : Map) (ps qs : List (ℕ × Play)) (n : Rule) (at : ℕ) → play_scores m ps ≡ refusal n at → play_scores m (ps ++ qs) ≡ refusal n at
+pub refused_more : (m : Map) (ps qs : List (ℕ × Play)) (n : Rule) (at : ℕ) → play_scores m ps ≡ refused (refusal_at n at) → play_scores m (ps ++ qs) ≡ refused (refusal_at n at)
+unfolding ◌>>=◌
 refused_more m ps qs n at e = rw (scores_append m ps qs, e)
 
 -- ---- the wanted play

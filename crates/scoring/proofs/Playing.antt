@@ -1,5 +1,6 @@
 -- What a loop over the plays of a file keeps: the scores of the plays read so far are those of the definition.
 use Rattle.rules.specs.declared.refusal.Rule.{Rule}
+use Rattle.rules.specs.declared.refusal.Refusal.{Refusal}
 use mathlib.Core.Path.{◌≡◌, refl, sym, ap, ◌∙◌, subst}
 use mathlib.Core.Bool.{Bool, true, false}
 use mathlib.Core.List.{List, [], ◌∷◌, ◌++◌}
@@ -7,8 +8,8 @@ use Prim.Native.Nat.{ℕ, zero, suc, ◌+◌, ◌≤◌, ◌<◌, min}
 use native.Mathlib.Omega.{arith}
 use borrow.Author.Tests.{eqb-true}
 use lib.Dec.{ltb}
-use lib.ListN.{length, drop}
-use Rattle.rules.specs.Refusals.{Checked, good, refused, pick, INPUT}
+use lib.ListN.{length, drop, get_or}
+use Rattle.rules.specs.Refusals.{Checked, good, refused, ◌>>=◌, ◌>>◌, OrRefusal, refusal_at, pick, INPUT, PLAY_EXCEEDS}
 use Rattle.records.specs.Records.{Content, header, break, object, play, FoundRecord}
 use Rattle.map_file.specs.Order.{play_rank, place}
 use Rattle.map_file.specs.File.{File, Map as MapData, Result, refused_at, with_record, follow, ended, file_from, file_of}
@@ -17,31 +18,44 @@ use Rattle.map_file.proofs.Reading.{found_at, found_ordered, chain_on, chain_pla
 use Rattle.play_state.specs.declared.Play.{Play}
 use Rattle.map_reader.specs.Map.{MapIs}
 use Rattle.map_reader.specs.declared.map.Map.{Map}
+use Rattle.map_reader.specs.declared.objects.Objects.{Objects}
 use Rattle.map_reader.proofs.Passed.{attributes_passed}
 use Rattle.play_reader.specs.Plays.{play_in}
 use Rattle.play_reader.proofs.Playing.{ReadTo, read_start, read_more, read_stop, read_end, reached_end}
 use Rattle.simulator.specs.declared.attributes.ScoreAttributes.{ScoreAttributes}
-use Rattle.play_score.specs.PlayRules.{play_score}
+use Rattle.marks.specs.Marks.{MarksOf, mark_before, attributes_from}
+use Rattle.marks.specs.declared.Marks.{Marks}
+use Rattle.marks.proofs.Marked.{anew_is, marked_exceeds}
+use Rattle.simulator.specs.Attributes.{score_attributes_at}
+use Rattle.play_score.specs.PlayRules.{exceeds, play_score}
+use Rattle.play_score.proofs.Exceeding.{exceeds_refused, exceeds_not}
 use Rattle.play_score.specs.declared.PlayScore.{PlayScore}
-use Rattle.scoring.specs.Scores.{Outcome, refusal, values, then, play_score_on, play_scores, scores_of}
-use Rattle.scoring.specs.View.{wanted_of, wanted_after, passes_as_many, Playing, Attributed, checked_of}
+use Rattle.scoring.specs.Scores.{play_score_on, play_scores, scores_of}
+use Rattle.scoring.specs.View.{wanted_of, wanted_after, AfterPlay, passes_as_many, Playing, Attributed, checked_of}
 use Rattle.scoring.specs.declared.plays.Wanted.{Wanted}
 use Rattle.scoring.specs.declared.plays.Wanted.TheVariants as wanted
 use Rattle.scoring.proofs.Lists.{scores_none, scores_more, scores_refused, refused_more, wanted_more}
 use Rattle.rules.proofs.Laws.{never}
 
+-- ---- what follows a refusal is refused by it
+pub stopped : {A B : Type 0} {x : OrRefusal A} {r : Refusal} (f : A → OrRefusal B) → x ≡ refused r → refused r ≡ (x >>= f)
+unfolding ◌>>=◌
+stopped {A = A} f e = sym (ap (λ (y : OrRefusal A). y >>= f) e)
+
 -- ---- a refused play refuses the file, whatever follows: behind it only plays can be read, and they change neither the map nor what was refused
 record Ended (f : File) (n : Rule) (at : ℕ) : Type 0 where
   late : f.last ≡ play_rank
-  refuses : play_scores f.map f.plays ≡ refusal n at
+  refuses : play_scores f.map f.plays ≡ refused (refusal_at n at)
 
 abbrev Refuses : Rule → ℕ → Result → Type 0
-Refuses n at r = scores_of r ≡ refusal n at
+Refuses n at r = scores_of r ≡ refused (refusal_at n at)
 
 stop_refuses : (f : File) (n : Rule) (at : ℕ) (k : Rule) (o : ℕ) → Ended f n at → Refuses n at (refused_at k o f)
+unfolding ◌>>◌
 stop_refuses f n at k o e = rw e.refuses
 
 end_refuses : (f : File) (n : Rule) (at : ℕ) → Ended f n at → Refuses n at (ended f)
+unfolding ◌>>=◌
 end_refuses f n at e = rw e.late (rw e.refuses)
 
 ended_more : (f : File) (n : Rule) (at : ℕ) (x : Content) (size : ℕ) → place f.last ≤ place (content_rank x) → Ended f n at → Ended (with_record f (x, size)) n at
@@ -88,7 +102,8 @@ module _ {s : List ℕ} {m : Map} {at : ℕ} {w : Wanted} {i : ℕ} (k : Playing
 
   module _ (h : at < length s) where
     -- a record that is refused
-    pub playing_cut : (n : Rule) → refused n ≡ play_in (drop at s) → scores_of (file_of s) ≡ refusal n at
+    pub playing_cut : (n : Rule) → refused n ≡ play_in (drop at s) → scores_of (file_of s) ≡ refused (refusal_at n at)
+    unfolding ◌>>◌
     playing_cut n e = rw (read_stop k.to h n e, k.same)
 
     module _ (q : Play) (e : good q ≡ play_in (drop at s)) where
@@ -96,11 +111,11 @@ module _ {s : List ℕ} {m : Map} {at : ℕ} {w : Wanted} {i : ℕ} (k : Playing
       next = read_more k.to h q e
 
       -- a play that is refused
-      pub playing_refused : (n : Rule) → refused n ≡ (play_score_on map_of q) → scores_of (file_of s) ≡ refusal n at
+      pub playing_refused : (n : Rule) → refused n ≡ (play_score_on map_of q) → scores_of (file_of s) ≡ refused (refusal_at n at)
       unfolding with_record read_more
       playing_refused n r = go (play_score_on k.to.file.map q) refl (r ∙ ap (λ (x : MapData). (play_score_on x q)) (sym here_map))
         where
-          go : (x : Checked PlayScore) → play_score_on k.to.file.map q ≡ x → refused n ≡ x → scores_of (file_of s) ≡ refusal n at
+          go : (x : Checked PlayScore) → play_score_on k.to.file.map q ≡ x → refused n ≡ x → scores_of (file_of s) ≡ refused (refusal_at n at)
           go (good y) p r = never (cc)
           go (refused j) p r =
               let same : n ≡ j = cc in
@@ -108,8 +123,8 @@ module _ {s : List ℕ} {m : Map} {at : ℕ} {w : Wanted} {i : ℕ} (k : Playing
               let on = chain_on s next.file next.reached.chain in
               let all = scores_refused f.map f.at q f.plays k.scores k.same j p in
               subst (Refuses j f.at) on.rest (from_refuses on.fuel s next.file j f.at (record { late = refl; refuses = all }))
-              ∙ ap (refusal j) k.to.here
-              ∙ ap (λ (a : Rule). refusal a at) (sym same)
+              ∙ ap (λ (o : ℕ). refused (refusal_at j o)) k.to.here
+              ∙ ap (λ (a : Rule). refused (refusal_at a at)) (sym same)
 
       pub playing_more : (y : PlayScore) → good y ≡ (play_score_on map_of q) → (v : Wanted) → v ≡ wanted_after w y → Playing s m (at + 44) v i
       unfolding with_record read_more
@@ -132,14 +147,31 @@ module _ {s : List ℕ} {m : Map} {at : ℕ} {w : Wanted} {i : ℕ} (k : Playing
 
   -- ---- the end of the file
   module _ (h : length s ≤ at) where
-    pub playing_scores : scores_of (file_of s) ≡ values (record { map = map_of; plays = k.scores })
+    pub playing_scores : scores_of (file_of s) ≡ good (record { map = map_of; plays = k.scores })
+    unfolding ◌>>=◌
     playing_scores =
         ap scores_of (reached_end k.to.map k.to.reached (read_end k.to h))
-        ∙ ap (λ (x : Outcome (List PlayScore)). then x (λ ss. values (record { map = k.to.file.map; plays = ss }))) k.same
-        ∙ ap (λ (x : MapData). values (record { map = x; plays = k.scores })) here_map
+        ∙ ap (λ (x : OrRefusal (List PlayScore)). x >>= λ ss. good (record { map = k.to.file.map; plays = ss })) k.same
+        ∙ ap (λ (x : MapData). good (record { map = x; plays = k.scores })) here_map
 
     pub playing_end : good w ≡ checked_of i (scores_of (file_of s))
+    unfolding ◌>>=◌
     playing_end = ap good k.wanted ∙ sym (ap (checked_of i) playing_scores)
+
+-- ---- a play that is checked on the attributes from its mark, which know no bonus
+module _ {s : List ℕ} {m : Map} {at : ℕ} {w : Wanted} {i : ℕ} (k : Playing s m at w i) (h : at < length s) (q : Play) (e : good q ≡ play_in (drop at s))
+    {marks : Marks} (known : MarksOf s m marks) (n : ℕ) (d : Objects) (mark : n ≡ mark_before m.objects q) (a : ScoreAttributes)
+    (from : a ≡ attributes_from false s m (get_or marks.states n d) q) where
+  exceeds_there : exceeds q (score_attributes_at (map_of k) q.passed_objects) ≡ exceeds q a
+  exceeds_there = sym (marked_exceeds k.to.map q known n d mark a from)
+
+  pub marked_refused : exceeds q a ≡ true → scores_of (file_of s) ≡ refused (refusal_at PLAY_EXCEEDS at)
+  marked_refused b = playing_refused k h q e PLAY_EXCEEDS (exceeds_refused q _ (exceeds_there ∙ b))
+
+  pub marked_more : exceeds q a ≡ false → (v : Wanted) → AfterPlay s m q w v → Playing s m (at + 44) v i
+  marked_more b v c =
+      let score = exceeds_not q _ (exceeds_there ∙ b) in
+      playing_more k h q e _ score v (c _ (score ∙ sym (anew_is k.to.map q)))
 
 -- ---- a play that passed as many objects as the attributes are of
 pub same_passed : (s : List ℕ) (p : ℕ) (m : Map) (a : ScoreAttributes) (k : Attributed s p m a) (q : Play) → passes_as_many q p m.objects ≡ true
@@ -161,7 +193,7 @@ unfolding playing_start read_start
 on_start k i = record { is = playing_start k i; on = refl }
 
 module _ {s : List ℕ} {m : Map} {at : ℕ} {w : Wanted} {i : ℕ} {d : MapData} (k : PlayingOn s m at w i d) (h : at < length s) (q : Play) (e : good q ≡ play_in (drop at s)) where
-  pub on_refused : (n : Rule) → refused n ≡ (play_score_on d q) → scores_of (file_of s) ≡ refusal n at
+  pub on_refused : (n : Rule) → refused n ≡ (play_score_on d q) → scores_of (file_of s) ≡ refused (refusal_at n at)
   on_refused n r = playing_refused k.is h q e n (r ∙ ap (λ (x : MapData). (play_score_on x q)) (sym k.on))
 
   pub on_more : (y : PlayScore) → good y ≡ (play_score_on d q) → (v : Wanted) → v ≡ wanted_after w y → PlayingOn s m (at + 44) v i d

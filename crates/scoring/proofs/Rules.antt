@@ -1,5 +1,6 @@
 -- Every refusal has the number of a rule: each check of a record names one, and the reading of a file always comes to its end.
 use Rattle.rules.specs.declared.refusal.Rule.{Rule}
+use Rattle.rules.specs.declared.refusal.Refusal.{Refusal}
 use Rattle.std.specs.Option.{ok_or}
 use Rattle.std.specs.Prelude.{Option, Some, None, is_none}
 use mathlib.Core.Path.{◌≡◌, refl, subst}
@@ -11,7 +12,7 @@ use borrow.Author.Tests.{ltb-true}
 use lib.Dec.{eqb, ltb}
 use lib.ListN.{length, take, drop}
 use Rattle.numbers.specs.Words.{word_at}
-use Rattle.rules.specs.Refusals.{Checked, good, refused, ◌>>=◌, ◌>>◌, refuse◌when◌, pick, number_of, CUT, MARK, RANGE, NESTED, COUNT, BONUS, PLAY_FIELD, PLAY_EXCEEDS}
+use Rattle.rules.specs.Refusals.{Checked, good, refused, ◌>>=◌, ◌>>◌, refuse◌when◌, pick, number_of, OrRefusal, refusal_at, CUT, MARK, RANGE, NESTED, COUNT, BONUS, PLAY_FIELD, PLAY_EXCEEDS, at_offset}
 use Rattle.records.specs.Fields.{time_of, duration_of, rate_of, setting_of}
 use Rattle.play_state.specs.Play.{origin_of, score_of}
 use Rattle.records.specs.Marks.{MH, BR, CI, SL, SP, PL}
@@ -25,7 +26,7 @@ use Rattle.map_file.proofs.Reading.{found_at, found_sized, with_at}
 use Rattle.simulator.specs.Attributes.{score_attributes_at}
 use Rattle.simulator.specs.declared.attributes.ScoreAttributes.{ScoreAttributes}
 use Rattle.play_score.specs.PlayRules.{play_score, given_score}
-use Rattle.scoring.specs.Scores.{Outcome, refusal, values, at_offset, then, play_score_on, play_scores, scores_of}
+use Rattle.scoring.specs.Scores.{play_score_on, play_scores, scores_of}
 
 -- the rules of a map file and its plays are numbered 2 to 9
 abbrev pub IsRule : Rule → Type 0
@@ -174,30 +175,36 @@ pub ruled_given : (p : Play) (a : ScoreAttributes) → Ruled (given_score p a)
 unfolding given_score
 ruled_given p a = ruled_when PLAY_FIELD _ _ eight (ruled_score_of p a)
 
-data RuledOutcome {A : Type 0} : Outcome A → Type 0 where
-  fine : {a : A} → RuledOutcome (values a)
-  rule : {n : Rule} {at : ℕ} → IsRule n → RuledOutcome (refusal n at)
+data RuledAt {A : Type 0} : OrRefusal A → Type 0 where
+  fine : {a : A} → RuledAt (good a)
+  rule : {r : Refusal} → IsRule r.rule → RuledAt (refused r)
 
-ruled_at : {A : Type 0} (at : ℕ) (x : Checked A) → Ruled x → RuledOutcome (at_offset at x)
+ruled_at : {A : Type 0} (at : ℕ) (x : Checked A) → Ruled x → RuledAt (at_offset at x)
 ruled_at at (refused n) (rule r) = rule r
 ruled_at at (good a) k = fine
 
-ruled_then : {A B : Type 0} (x : Outcome A) (f : A → Outcome B) → RuledOutcome x → ((a : A) → RuledOutcome (f a)) → RuledOutcome (then x f)
-ruled_then (refusal n at) f (rule r) k = rule r
-ruled_then (values a) f x k = k a
+ruled_then : {A B : Type 0} (x : OrRefusal A) (f : A → OrRefusal B) → RuledAt x → ((a : A) → RuledAt (f a)) → RuledAt (x >>= f)
+unfolding ◌>>=◌
+ruled_then (refused n) f (rule r) k = rule r
+ruled_then (good a) f x k = k a
 
-ruled_plays : (m : Map) (ps : List (ℕ × Play)) → RuledOutcome (play_scores m ps)
+ruled_before : {A B : Type 0} (x : OrRefusal A) (y : OrRefusal B) → RuledAt x → RuledAt y → RuledAt (x >> y)
+unfolding ◌>>◌
+ruled_before (refused n) y (rule r) k = rule r
+ruled_before (good a) y x k = k
+
+ruled_plays : (m : Map) (ps : List (ℕ × Play)) → RuledAt (play_scores m ps)
 unfolding play_scores
 ruled_plays m [] = fine
 ruled_plays m (p ∷ ps) =
     ruled_then _ _ (ruled_at p.0 (play_score_on m p.1) (ruled_score_of p.1 (score_attributes_at m p.1.passed_objects))) (λ s. ruled_then _ _ (ruled_plays m ps) (λ ss. fine))
 
-pub refusal_rule : (s : List ℕ) (n : Rule) (at : ℕ) → scores_of (file_of s) ≡ refusal n at → IsRule n
-refusal_rule s n at e = out (subst RuledOutcome e (go (file_of s) (ruled_file s)))
+pub refusal_rule : (s : List ℕ) (n : Rule) (at : ℕ) → scores_of (file_of s) ≡ refused (refusal_at n at) → IsRule n
+refusal_rule s n at e = out (subst RuledAt e (go (file_of s) (ruled_file s)))
   where
-    go : (r : Result) → RuledFile r → RuledOutcome (scores_of r)
+    go : (r : Result) → RuledFile r → RuledAt (scores_of r)
     go (accepted f) k = ruled_then _ _ (ruled_plays f.map f.plays) (λ ss. fine)
-    go (refused_at n at f) (rule r) = ruled_then _ _ (ruled_plays f.map f.plays) (λ ss. rule r)
+    go (refused_at n at f) (rule r) = ruled_before _ _ (ruled_plays f.map f.plays) (rule r)
 
-    out : {A : Type 0} {n : Rule} {at : ℕ} → RuledOutcome {A = A} (refusal n at) → IsRule n
+    out : {A : Type 0} {r : Refusal} → RuledAt {A = A} (refused r) → IsRule r.rule
     out (rule r) = r

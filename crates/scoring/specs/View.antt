@@ -1,7 +1,7 @@
 -- What the code keeps while it reads the plays of a file, and what it answers.
 use Rattle.std.specs.Prelude.{ℕ, zero, suc, ◌-◌, min, ◌≡◌, Bool, List, [], ◌∷◌, eqb, Option, Some, None}
-use Rattle.rules.specs.Refusals.{Checked, OrRefusal, good, refused, refusal_at, pick}
-use Rattle.rules.specs.declared.refusal.Rule.{Rule}
+use Rattle.rules.specs.Refusals.{Checked, OrRefusal, good, refused, ◌>>=◌, pick}
+use Rattle.rules.specs.declared.refusal.Refusal.{Refusal}
 use Rattle.play_state.specs.declared.Play.{Play}
 use Rattle.map_file.specs.File.{file_of}
 use Rattle.map_reader.specs.Map.{MapIs}
@@ -9,9 +9,9 @@ use Rattle.map_reader.specs.declared.map.Map.{Map}
 use Rattle.play_reader.proofs.Playing.{ReadTo}
 use Rattle.simulator.specs.Attributes.{score_attributes_at}
 use Rattle.simulator.specs.declared.attributes.ScoreAttributes.{ScoreAttributes}
-use Rattle.scoring.specs.Scores.{Outcome, refusal, values, Scores, play_score_on, play_scores, scores_of}
+use Rattle.scoring.specs.Scores.{Scores, play_score_on, play_scores, scores_of}
 use Rattle.play_score.specs.declared.PlayScore.{PlayScore}
-use Rattle.marks.specs.Marks.{scored_anew}
+use Rattle.marks.specs.Marks.{passed_of, scored_anew}
 use Rattle.scoring.specs.declared.plays.Wanted.{Wanted}
 use Rattle.scoring.specs.declared.plays.Wanted.TheVariants as wanted
 
@@ -32,14 +32,14 @@ AfterPlay s m q w r = (y : PlayScore) → good y ≡ scored_anew s m q → r ≡
 
 -- as many of n objects as a count of p passes
 abbrev pub passes_as_many : Play → ℕ → ℕ → Bool
-passes_as_many q p n = eqb (min q.passed_objects n) (min p n)
+passes_as_many q p n = eqb (passed_of n q) (min p n)
 
 -- some plays behind the map were read and are good; w is the one at the index i, if it was among them
 pub record Playing (s : List ℕ) (m : Map) (at : ℕ) (w : Wanted) (i : ℕ) : Type 0 where
   pub p : ℕ
   pub to : ReadTo s p m at
   pub scores : List PlayScore
-  pub same : play_scores to.file.map to.file.plays ≡ values scores
+  pub same : play_scores to.file.map to.file.plays ≡ good scores
   pub wanted : w ≡ wanted_of i scores
 
 pub record AnyPlaying (s : List ℕ) (m : Map) (at : ℕ) (w : Wanted) : Type 0 where
@@ -56,9 +56,10 @@ abbrev pub ScoredOn : List ℕ → ℕ → Map → ScoreAttributes → Play → 
 ScoredOn s p m a q r = (k : Attributed s p m a) → r ≡ play_score_on k.map.file.map q
 
 -- at the end of a file: the play at the index i
-abbrev pub checked_of : ℕ → Outcome Scores → OrRefusal Wanted
-checked_of i (refusal n at) = refused (refusal_at n at)
-checked_of i (values x) = good (wanted_of i x.plays)
+abbrev pub checked_of : ℕ → OrRefusal Scores → OrRefusal Wanted
+checked_of i x = do
+  s ← x
+  good (wanted_of i s.plays)
 
 -- the rest of a file, whatever the index of the wanted play
 abbrev pub CheckedFrom : List ℕ → Map → ℕ → Wanted → OrRefusal Wanted → Type 0
@@ -66,9 +67,9 @@ CheckedFrom s m at w r = (i : ℕ) → Playing s m at w i → r ≡ checked_of i
 
 -- the map too, with the attributes of its first p objects
 pub data PlaysOf (s : List ℕ) (p : ℕ) : OrRefusal (Map × ScoreAttributes) → Type 0 where
-  are : {m : Map} {a : ScoreAttributes} (k : MapIs s p m) (x : Scores) → scores_of (file_of s) ≡ values x → x.map ≡ k.file.map
+  are : {m : Map} {a : ScoreAttributes} (k : MapIs s p m) (x : Scores) → scores_of (file_of s) ≡ good x → x.map ≡ k.file.map
       → a ≡ score_attributes_at x.map p → PlaysOf s p (good (m, a))
-  refuses : {n : Rule} {at : ℕ} → scores_of (file_of s) ≡ refusal n at → PlaysOf s p (refused (refusal_at n at))
+  refuses : {r : Refusal} → scores_of (file_of s) ≡ refused r → PlaysOf s p (refused r)
 
 -- the wanted play of a good file
 abbrev pub listed_by : Wanted → Option PlayScore

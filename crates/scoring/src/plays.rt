@@ -6,7 +6,7 @@ ghost use Rattle.scoring.specs.View.{wanted_after, AfterPlay, passes_as_many, An
 
 use map_reader::attributes::attributes_of;
 use map_reader::map::{Map, read_passed};
-use marks::{MapFile, mark_before};
+use marks::{MapFile, mark_before, passed_of};
 use play_reader::play_at;
 use play_score::{PlayScore, exceeds_map, score_on};
 use play_state::Play;
@@ -27,7 +27,7 @@ impl Wanted {
         ensures { result ≡ wanted_after self score }
     {
         match self {
-            Wanted::Is(found) => Wanted::Is(found),
+            Wanted::Is(_) => self,
             Wanted::Ahead(0) => Wanted::Is(score),
             Wanted::Ahead(ahead) => Wanted::Ahead(ahead - 1),
         }
@@ -40,7 +40,7 @@ impl Wanted {
         ensures { AfterPlay file.now.bytes.now file.now.map play self result }
     {
         match self {
-            Wanted::Is(found) => Wanted::Is(found),
+            Wanted::Is(_) => self,
             Wanted::Ahead(0) => file.score_anew(play).map_or(self, Wanted::Is),
             Wanted::Ahead(ahead) => Wanted::Ahead(ahead - 1),
         }
@@ -51,10 +51,11 @@ impl Wanted {
 fn passes_as_many(play: Play, passed: u64, objects: u64) -> bool
     ensures { result ≡ passes_as_many play passed objects }
 {
-    u64::from(play.passed_objects).min(objects) == passed.min(objects)
+    passed_of(play, objects) == passed.min(objects)
 }
 
 // The plays from an offset on, whatever they passed, from marks: 9 takes no bonus, so that no spinner is walked for it.
+#[tactic(auto, using(marks::proofs::Marked::mark_there))]
 fn check_any(file: &MapFile, from: usize, former: Wanted) -> Result<Wanted, Refusal>
     requires { AnyPlaying file.now.bytes.now file.now.map from former }
     ensures { CheckedFrom file.now.bytes.now file.now.map from former result }
@@ -138,13 +139,16 @@ pub fn check_behind(
     Ok(wanted)
 }
 
-// Reads a file to its end, each play checked in its place, for its map and the attributes of its first objects. No play has the index that is asked for,
-// so that from marks none is scored.
+// No play of a file has it: where it is asked for, none is scored from marks.
+const NO_INDEX: u64 = u64::MAX;
+
+// Reads a file to its end, each play checked in its place, for its map and the attributes of its first objects.
+#[tactic(auto, using(crate::proofs::Answers::read_complete, crate::proofs::Answers::read_plays, crate::proofs::Answers::start_plays, crate::proofs::Answers::check_plays))]
 pub fn check_plays(s: &[u8], passed: u64) -> Result<(Map, ScoreAttributes), Refusal>
     ensures { PlaysOf s.now passed result }
 {
     let map = read_passed(s, passed)?;
     let a = attributes_of(s, map);
-    check_behind(&MapFile { bytes: s, map }, a, passed, u64::MAX)?;
+    check_behind(&MapFile { bytes: s, map }, a, passed, NO_INDEX)?;
     Ok((map, a))
 }

@@ -94,3 +94,6 @@ repeats_kept s = repeats_of s.repeats s.ticks
 
 pub ticks_kept : (s : Slider) → ticks (items_of s) ≡ s.ticks
 ticks_kept s = ticks_of s.repeats s.ticks
+
+-- an object's walk, with the counts of a slider
+pub ruleset walks = (walk-circle, walk-slider, walk-spinner, repeats_kept, ticks_kept)

@@ -1,12 +1,14 @@
 -- Document 01: the score attributes of a map's first p objects, and "a second struct carries the derived f64 attributes between simulator and
 -- estimates".
-use Rattle.std.specs.Prelude.{ℕ, eqb, take, Float}
+use Rattle.std.specs.Prelude.{ℕ, eqb, take, ℤ, Float}
 use Rattle.numbers.specs.Floats.{whole, ◌⊘◌}
 use Rattle.rules.specs.Refusals.{pick}
 use Rattle.map_file.specs.File.{Map}
-use Rattle.ruleset.specs.Stars.{multiplier_at}
+use Rattle.records.specs.declared.beatmap.Settings.{Settings}
+use Rattle.ruleset.specs.Stars.{multiplier_of, multiplier_at}
 use Rattle.simulator.specs.Walk.{State, fresh, after}
 use Rattle.simulator.specs.Combo.{largest_gain_of}
+use Rattle.simulator.specs.View.{times}
 use Rattle.simulator.specs.Nested.{no_object, counted_all, nested_score_of}
 use Rattle.simulator.specs.declared.legacy_score.NestedScorePerObject.{NestedScorePerObject}
 use Rattle.simulator.specs.declared.legacy_score_simulator.LegacyScoreAttributes.{LegacyScoreAttributes}
@@ -51,6 +53,10 @@ score_attributes_of st c m = record {
   legacy = legacy_attributes_of st;
   difficulty = difficulty_attributes_of st c m;
 }
+
+-- with the multiplier of settings, of the objects that are counted and of a drain
+abbrev pub score_attributes_with : Settings → ℤ → State → NestedScorePerObject → ScoreAttributes
+score_attributes_with s drain st c = let m = multiplier_of s c.object_count drain in score_attributes_of (times m st) c m
 
 -- "Attributes are those of the passed objects"
 unfoldable pub score_attributes_at : Map → ℕ → ScoreAttributes

@@ -1,12 +1,15 @@
 // The attributes of a map's first objects, from their sums and the multiplier.
-ghost use Rattle.std.specs.Prelude.{◌≡◌, ◌≤◌};
+ghost use Rattle.std.specs.Prelude.{◌≡◌};
 ghost use Rattle.rules.specs.Limits.{max_objects};
-ghost use Rattle.simulator.specs.Attributes.{difficulty_attributes_of, score_attributes_of};
+ghost use Rattle.ruleset.specs.Stars.{SettingsIn};
+ghost use Rattle.simulator.specs.Attributes.{difficulty_attributes_of, score_attributes_of, score_attributes_with};
 ghost use Rattle.simulator.specs.Limits.{Bounded, Counted};
 ghost use Rattle.simulator.specs.View.{times};
 
 use crate::legacy_score::NestedScorePerObject;
 use crate::legacy_score_simulator::{LegacyScoreAttributes, OsuLegacyScoreSimulator};
+use records::beatmap::Settings;
+use ruleset::score_multiplier::{DrainLen, Multiplier, score_multiplier};
 use spinner::StandardisedBonusScore;
 use std::num::nearest_u64_to_f64;
 
@@ -45,10 +48,10 @@ pub struct PassedValues {
 fn difficulty_attributes(
     score: OsuLegacyScoreSimulator,
     nested: NestedScorePerObject,
-    multiplier: u64,
+    multiplier: Multiplier,
 ) -> OsuDifficultyAttributes
-    requires { Bounded score × Counted max_objects nested × (multiplier ≤ 7) }
-    ensures { result ≡ difficulty_attributes_of (times multiplier score) nested multiplier }
+    requires { Bounded score × Counted max_objects nested }
+    ensures { result ≡ difficulty_attributes_of (times multiplier.value score) nested multiplier.value }
 {
     OsuDifficultyAttributes {
         max_combo: score.combo as u32,
@@ -58,8 +61,8 @@ fn difficulty_attributes(
         n_repeats: nested.n_repeats as u32,
         n_ticks: nested.amount_of_small_ticks as u32,
         nested_score_per_object: nested.calculate(),
-        legacy_score_base_multiplier: multiplier as f64,
-        maximum_legacy_combo_score: nearest_u64_to_f64(score.combo_score * multiplier),
+        legacy_score_base_multiplier: multiplier.value as f64,
+        maximum_legacy_combo_score: nearest_u64_to_f64(score.combo_score * multiplier.value),
     }
 }
 
@@ -69,16 +72,32 @@ fn difficulty_attributes(
 pub fn score_attributes(
     score: OsuLegacyScoreSimulator,
     nested: NestedScorePerObject,
-    multiplier: u64,
+    multiplier: Multiplier,
 ) -> ScoreAttributes
-    requires { Bounded score × Counted max_objects nested × (multiplier ≤ 7) }
-    ensures { result ≡ score_attributes_of (times multiplier score) nested multiplier }
+    requires { Bounded score × Counted max_objects nested }
+    ensures { result ≡ score_attributes_of (times multiplier.value score) nested multiplier.value }
 {
     ScoreAttributes {
         object_count: nested.object_count,
-        multiplier,
+        multiplier: multiplier.value,
         standardised_bonus_score: score.standardised_bonus_score,
         legacy: score.finalize(multiplier),
         difficulty: difficulty_attributes(score, nested, multiplier),
     }
+}
+
+// With the multiplier from a map's settings and its drain, for the objects that are counted. As a call it would copy the sums and the attributes:
+// 35 more instructions for a map or a read.
+#[inline(always)]
+pub fn score_attributes_with(
+    settings: Settings,
+    drain: DrainLen,
+    score: OsuLegacyScoreSimulator,
+    nested: NestedScorePerObject,
+) -> ScoreAttributes
+    requires { SettingsIn settings × Bounded score × Counted max_objects nested }
+    ensures { result ≡ score_attributes_with settings drain.seconds score nested }
+{
+    let multiplier = score_multiplier(settings, nested.object_count, drain.seconds);
+    score_attributes(score, nested, multiplier)
 }

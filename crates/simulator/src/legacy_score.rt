@@ -77,7 +77,7 @@ impl NestedScorePerObject {
     }
 
     // With no object a quotient of zeros, which is not a number.
-    #[tactic(auto, unfolding(crate::specs::Nested::nested_score_of))]
+    #[tactic(auto, unfolding(crate::specs::Nested::nested_score_of, numbers::proofs::Literals::of_bits, numbers::proofs::Literals::of_int))]
     pub fn calculate(self) -> f64
         requires { Counted max_objects self }
         ensures { result ≡ nested_score_of self }

@@ -9,6 +9,7 @@ ghost use Rattle.simulator.specs.View.{kind_of, times};
 
 use records::hit_object::{HitObjectKind, Slider, Spinner};
 use ruleset::hit_result::HitResult;
+use ruleset::score_multiplier::Multiplier;
 use spinner::{LegacyBonusScore, StandardisedBonusScore};
 use std::num::nearest_u64_to_f64;
 
@@ -48,6 +49,7 @@ impl OsuLegacyScoreSimulator {
         OsuLegacyScoreSimulator::default()
     }
 
+    #[tactic(auto, using(crate::proofs::Objects::walks))]
     pub fn circle(self) -> Self
         requires { Within (max_objects - 1) self }
         ensures { result ≡ walk 1 self (hits_of (kind_of HitObjectKind.Circle)) }
@@ -61,6 +63,7 @@ impl OsuLegacyScoreSimulator {
     }
 
     // The head, the repeats and the tail give 30 each and the ticks 10, all before the 300 at the end.
+    #[tactic(auto, using(crate::proofs::Objects::walks))]
     pub fn slider(self, slider: Slider) -> Self
         requires { Within (max_objects - 1) self × (slider.repeats + slider.ticks + 1 ≤ max_nested) }
         ensures { result ≡ walk 1 self (hits_of (kind_of (HitObjectKind.Slider slider))) }
@@ -79,7 +82,7 @@ impl OsuLegacyScoreSimulator {
     }
 
     // The bonus of the half spins, then the 300 at the end.
-    #[tactic(auto, using(crate::proofs::Bonus::legacy_most, crate::proofs::Bonus::standardised_most))]
+    #[tactic(auto, using(crate::proofs::Bonus::legacy_most, crate::proofs::Bonus::standardised_most, crate::proofs::Objects::walks))]
     pub fn spinner(self, spinner: Spinner) -> Self
         requires { Within (max_objects - 1) self }
         ensures { result ≡ walk 1 self (hits_of (kind_of (HitObjectKind.Spinner spinner))) }
@@ -90,15 +93,13 @@ impl OsuLegacyScoreSimulator {
             self.standardised_bonus_score.0 + bonus.standardised.0,
         );
         OsuLegacyScoreSimulator {
-            combo: self.combo + 1,
-            accuracy_score: self.accuracy_score + HitResult::Great.base_score(),
-            combo_score: self.combo_score + combo_points(self.combo),
             legacy_bonus_score,
             standardised_bonus_score,
+            ..self.circle()
         }
     }
 
-    #[tactic(auto, unfolding(crate::specs::Attributes::bonus_ratio_of))]
+    #[tactic(auto, unfolding(crate::specs::Attributes::bonus_ratio_of, numbers::proofs::Literals::of_bits, numbers::proofs::Literals::of_int))]
     fn bonus_score_ratio(self) -> f64
         ensures { result ≡ bonus_ratio_of self }
     {
@@ -112,13 +113,13 @@ impl OsuLegacyScoreSimulator {
 
     // The attributes with the multiplier of the map.
     #[tactic(auto, unfolding(crate::specs::Attributes::legacy_attributes_of, crate::specs::Attributes::bonus_ratio_of))]
-    pub fn finalize(self, multiplier: u64) -> LegacyScoreAttributes
-        requires { Bounded self × (multiplier ≤ 7) }
-        ensures { result ≡ legacy_attributes_of (times multiplier self) }
+    pub fn finalize(self, multiplier: Multiplier) -> LegacyScoreAttributes
+        requires { Bounded self }
+        ensures { result ≡ legacy_attributes_of (times multiplier.value self) }
     {
         LegacyScoreAttributes {
             accuracy_score: self.accuracy_score,
-            combo_score: self.combo_score * multiplier,
+            combo_score: self.combo_score * multiplier.value,
             bonus_score_ratio: self.bonus_score_ratio(),
             bonus_score: self.legacy_bonus_score,
             max_combo: self.combo,

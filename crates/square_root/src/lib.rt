@@ -4,7 +4,7 @@
 ghost use Rattle.std.specs.Prelude.{◌≡◌, ℕ, ◌+◌, ◌*◌, ◌^◌, ◌<◌, ◌≤◌};
 ghost use Rattle.square_root.specs.Roots.{isqrt, rooted, root_of, power_of};
 
-use numbers::bits::{Parts, split};
+use numbers::bits::{Parts, Significand, split};
 use numbers::rounding::cut;
 use std::marker::Model;
 use std::num::{f64_from_bits_with_nan, nearest_u64_to_f64};
@@ -147,34 +147,35 @@ impl Radicand {
 // A number significand * 2 ^ exponent, with 53 digits in the significand.
 #[derive(Clone, Copy)]
 struct Normal {
-    significand: u64,
+    significand: Significand,
     exponent: u64,
-    ghost long: { 2 ^ 52 ≤ significand },
-    ghost short: { significand < 2 ^ 53 },
+    ghost long: { 2 ^ 52 ≤ significand.digits },
     ghost in_range: { exponent < 2110 },
 }
 
 impl Normal {
     // The exponent is raised by 64 first, so that it stays above 0 for a significand of few digits.
-    fn new(significand: u64, exponent: u64) -> Self
-        requires { (0 < significand) × (significand < 2 ^ 53) × (exponent < 2046) }
-        ensures { result.significand * 2 ^ result.exponent ≡ significand * 2 ^ (exponent + 64) }
+    fn new(significand: Significand, exponent: u64) -> Self
+        requires { (0 < significand.digits) × (exponent < 2046) }
+        ensures { result.significand.digits * 2 ^ result.exponent ≡ significand.digits * 2 ^ (exponent + 64) }
     {
-        let shift = 52 - significand.ilog2() as u64;
+        let shift = 52 - u64::from(significand.digits.ilog2());
         Normal {
-            significand: significand << shift,
+            significand: Significand {
+                digits: significand.digits << shift,
+            },
             exponent: exponent + 64 - shift,
         }
     }
 
     // √(significand * 2 ^ exponent / 2 ^ 1138). The whole root has 54 digits: the last one rounds, and there is no tie.
     fn root(self) -> f64
-        ensures { result ≡ rooted (self.significand * 2 ^ self.exponent * 2 ^ 62) }
+        ensures { result ≡ rooted (self.significand.digits * 2 ^ self.exponent * 2 ^ 62) }
     {
         let odd = self.exponent % 2;
         let half = self.exponent / 2;
         let radicand = Radicand {
-            m: self.significand << odd,
+            m: self.significand.digits << odd,
         };
         let digits = (radicand.whole_root().root() + 1) / 2;
         f64_from_bits_with_nan(((half + 479) << 52) + digits)
@@ -199,6 +200,9 @@ pub fn root(v: f64) -> f64
             if negative {
                 return 0.0 / 0.0;
             }
+            let significand = Significand {
+                digits: significand,
+            };
             Normal::new(significand, exponent).root()
         }
     }

@@ -16,6 +16,7 @@ impl<'a> Page<'a> {
         Page { space, at: 0 }
     }
 
+    #[tactic(auto, using(crate::proofs::Copies::copied), unfolding(crate::specs::Space::behind))]
     pub fn put_text(&mut self, text: &[u8])
         ensures { self.new ≡ put self.old text.now }
     {

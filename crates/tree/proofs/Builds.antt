@@ -1,22 +1,45 @@
--- The steps of `cleared` and `raised`, as the code takes them.
+-- `cleared` and the steps of `raised`, as the code takes them.
 use Prim.Native.Nat.{ℕ, zero, suc, ◌+◌, ◌-◌, ◌*◌, ◌≤◌, ◌<◌}
-use mathlib.Core.Path.{◌≡◌, refl}
+use mathlib.Core.Path.{◌≡◌, refl, sym, ap, ap₂, ◌∙◌}
 use mathlib.Core.Bool.{true}
-use mathlib.Core.List.{List}
+use mathlib.Core.List.{List, ◌++◌, append_assoc}
+use native.Mathlib.Omega.{arith}
 use native.Mathlib.Nat.{not-suc-le-zero}
-use native.Mathlib.Numerals.{add-one, sub-one}
-use Rattle.entries.specs.Entry.{none, joined, in_limits}
+use native.Mathlib.Numerals.{sub-one}
+use lib.ListN.{length, replicate, take, drop, length-replicate}
+use lib.Seq.{sets, drop-drop}
+use borrow.Rule.Slice.PartMut.{put_mid}
+use Rattle.std.proofs.lemmas.List.{replicate-append-replicate}
+use Rattle.std.proofs.lemmas.List.Edits.{sets-eq}
+use Rattle.entries.specs.Entry.{none, joined, in_limits, entry_words}
 use Rattle.entries.specs.Words.{entry_at, put_entry}
 use Rattle.entries.specs.declared.entry.Entry.{Entry}
+use Rattle.entries.proofs.WordLaws.{sets_append, put_sets}
 use Rattle.tree.specs.Build.{cleared, raised, Raises}
 
-pub cleared-none : (e : ℕ) (b : List ℕ) → b ≡ cleared e 0 b
+-- zeros stored one entry after another are those of one `fill`
+cleared_zeros : (e n : ℕ) (b : List ℕ) → cleared e n b ≡ sets b (e * entry_words) (replicate (n * entry_words) 0)
 unfolding cleared
-cleared-none e b = refl
+cleared_zeros e zero b = refl
+cleared_zeros e (suc n) b =
+    let size : length {A = ℕ} (replicate (n * entry_words) 0) ≡ n * entry_words = length-replicate {A = ℕ} (n * entry_words) 0 in
+    let more : n * entry_words + entry_words ≡ suc n * entry_words = omega arith in
+    let at : e * entry_words + length {A = ℕ} (replicate (n * entry_words) 0) ≡ (e + n) * entry_words = omega (arith, size) in
+    put_sets (cleared e n b) (e + n) none
+    ∙ ap₂ (λ (l : List ℕ) (i : ℕ). sets l i (replicate entry_words 0)) (cleared_zeros e n b) (sym at)
+    ∙ sym (sets_append (replicate (n * entry_words) 0) (replicate entry_words 0) b (e * entry_words))
+    ∙ ap (sets b (e * entry_words)) (replicate-append-replicate (n * entry_words) entry_words 0 ∙ ap (λ (m : ℕ). replicate m 0) more)
 
-pub cleared_next : (e i : ℕ) (b : List ℕ) → put_entry (cleared e i b) (e + i) none ≡ cleared e (i + 1) b
-unfolding cleared
-cleared_next e i b = rw add-one
+pub filled_zeros : (e n : ℕ) (b : List ℕ) (i m : ℕ) (zs : List ℕ) → i ≡ e * entry_words → m ≡ n * entry_words → zs ≡ replicate m 0 → i + m ≤ length b → put_mid i m b zs ≡ cleared e n b
+filled_zeros e n b i m zs ei em is room =
+    let size : length {A = ℕ} (replicate (n * entry_words) 0) ≡ n * entry_words = length-replicate {A = ℕ} (n * entry_words) 0 in
+    let room' : e * entry_words + length {A = ℕ} (replicate (n * entry_words) 0) ≤ length b = omega (arith, size) in
+    rw (is, ei, em)
+    (ap (λ (l : List ℕ). take (e * entry_words) b ++ (replicate (n * entry_words) 0 ++ l)) (drop-drop (n * entry_words) (e * entry_words) b)
+    ∙ sym (append_assoc (take (e * entry_words) b) (replicate (n * entry_words) 0) (drop (e * entry_words + n * entry_words) b))
+    ∙ ap (λ (k : ℕ). (take (e * entry_words) b ++ replicate (n * entry_words) 0) ++ drop (e * entry_words + k) b) (sym size)
+    ∙ sym (sets-eq (replicate (n * entry_words) 0) b (e * entry_words) room')
+    ∙ sym (cleared_zeros e n b))
 
 -- what is known of entry e once its halves v and w are read
 abbrev pub Next : List ℕ → Entry → Entry → ℕ → Type 0
@@ -35,5 +58,3 @@ pub raised_end : (e : ℕ) (b : List ℕ) → e ≤ 0 → raised e b ≡ b
 unfolding raised
 raised_end zero b h = refl
 raised_end (suc e) b h = absurd (not-suc-le-zero h)
-
-pub ruleset clearing = (cleared-none, cleared_next)

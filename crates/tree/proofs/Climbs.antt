@@ -9,13 +9,14 @@ use native.Mathlib.Decide.{ℕ_discrete}
 use native.Mathlib.Numerals.{sub-one}
 use borrow.Author.Tests.{eq-eqb, ne_eqb, le-ltb}
 use lib.Dec.{eqb, lit<}
+use Rattle.std.specs.Result.{result_and, result_unwrap_or}
 use Rattle.rules.specs.Limits.{max_bonus}
 use Rattle.rules.specs.Refusals.{Checked, good, refused, ◌>>=◌, ◌>>◌, refuse◌when◌}
-use Rattle.entries.specs.Entry.{joined, in_limits}
+use Rattle.entries.specs.Entry.{joined, in_limits, checked}
 use Rattle.entries.specs.Words.{entry_at, put_entry}
 use Rattle.entries.specs.declared.entry.Entry.{Entry}
 use Rattle.tree.specs.Limited.{without_legacy, limited}
-use Rattle.tree.specs.Put.{beside_of, above_of, climbed, put_of, or_else}
+use Rattle.tree.specs.Put.{beside_of, above_of, climbed}
 use Rattle.rules.proofs.Laws.{never}
 use Rattle.rules.proofs.Steps.{bind_good, bind_refused, when_true, when_false}
 use Rattle.entries.proofs.Limits.{word_le}
@@ -38,7 +39,7 @@ pub limited-in_limits : (e : Entry) → in_limits e ≡ true → limited e ≡ g
 limited-in_limits e h = limited_low e (light_of e h) (word_le e h 5 (lit< tt))
 
 pub above_is : (e : ℕ) (v w u : Entry) → in_limits w ≡ true → cond (eqb (e % 2) 0) (joined v w) (joined w v) ≡ u → above_of e v w ≡ limited u
-unfolding above_of ◌>>◌ refuse◌when◌
+unfolding above_of checked ◌>>=◌ ◌>>◌ refuse◌when◌
 above_is e v w u h q = simp h (ap limited q)
 
 -- ---- the steps of a climb
@@ -58,11 +59,11 @@ one_up zero b e v h = absurd (h refl)
 one_up (suc n) b e v h = simp sub-one
 
 -- ---- what a call says of its climb
-pub told_put : (x : Checked (List ℕ)) (b written : List ℕ) → (good tt) ≡ put_of x → written ≡ or_else x b → x ≡ good written
+pub told_put : (x : Checked (List ℕ)) (b written : List ℕ) → good (tt {0}) ≡ result_and x (good (tt {0})) → written ≡ result_unwrap_or x b → x ≡ good written
 told_put (refused n) b written e h = never (cc)
 told_put (good l) b written e h = ap good (sym h)
 
-pub told_stop : (x : Checked (List ℕ)) (n : Rule) → refused n ≡ put_of x → x ≡ refused n
+pub told_stop : (x : Checked (List ℕ)) (n : Rule) → refused n ≡ result_and x (good (tt {0})) → x ≡ refused n
 told_stop (refused m) n e = cc
 told_stop (good l) n e = never (cc)
 

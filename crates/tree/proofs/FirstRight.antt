@@ -12,9 +12,9 @@ use lib.ListN.{take, drop, take-append-drop}
 use lib.Seq.{take-add}
 use lib.Pow.{pow_pos, pow-add, pow_mono}
 use Rattle.rules.specs.Limits.{max_bonus}
-use Rattle.rules.specs.Refusals.{good, ◌>>◌, refuse◌when◌}
+use Rattle.rules.specs.Refusals.{good, ◌>>=◌, ◌>>◌, refuse◌when◌}
 use Rattle.records.specs.Objects.{Object}
-use Rattle.entries.specs.Entry.{none, joined, entry_of, in_limits}
+use Rattle.entries.specs.Entry.{none, joined, entry_of, in_limits, checked}
 use Rattle.entries.specs.Words.{entry_at}
 use Rattle.entries.specs.declared.entry.Entry.{Entry}
 use Rattle.entries.proofs.Accepted.{entry_first}
@@ -30,7 +30,7 @@ use Rattle.tree.proofs.Within.{parts_in}
 
 -- an entry within all limits passes both checks of a combination
 after_good : (a w : Entry) → in_limits w ≡ true → in_limits (joined a w) ≡ true → after_of a w ≡ good (joined a w)
-unfolding after_of limited ◌>>◌ refuse◌when◌
+unfolding after_of checked limited ◌>>=◌ ◌>>◌ refuse◌when◌
 after_good a w h k =
     let low : (joined a w).legacy_bonus_score ≤ max_bonus = word_le (joined a w) k 5 (omega arith) in
     simp (h, light_of (joined a w) k, le-ltb _ _ low)

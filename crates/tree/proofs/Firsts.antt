@@ -16,7 +16,7 @@ use Rattle.entries.specs.Entry.{none, place_words, entry_words}
 use Rattle.entries.specs.Words.{entry_at}
 use Rattle.entries.specs.declared.entry.Entry.{Entry}
 use Rattle.tree.specs.Limited.{after_of}
-use Rattle.tree.specs.First.{walked, taken, turned_of}
+use Rattle.tree.specs.First.{walked, turned_of}
 use Rattle.tree.specs.declared.first.Prefix.{Prefix}
 
 half_pow : (n : ℕ) → 0 < n → 2 ^ n / 2 ≡ 2 ^ (n - 1)
@@ -129,14 +129,18 @@ module _ {b : List ℕ} {levels left : ℕ} {t₀ t : Prefix} (k : Walking b lev
       ends : {n : Rule} → walked_at levels b t₀ ≡ refused n → After (refused n)
 
     pub after : After (turned_of b t)
+    unfolding ◌>>=◌
     after = go (ltb t.rest t.width) refl
       where
-        read : t.width ≤ t.rest → (x : Checked Entry) → after_of t.sum (entry_at b t.x) ≡ x → After (taken t x)
+        took_on : Entry → Checked Prefix
+        took_on u = good (record { x = (t.x + 1) * 2; width = t.width / 2; rest = t.rest - t.width; sum = u })
+
+        read : t.width ≤ t.rest → (x : Checked Entry) → after_of t.sum (entry_at b t.x) ≡ x → After (x >>= took_on)
         read h (refused n) q = ends (sym k.same ∙ stops b t.x t.rest t.sum left n pos (subst (λ (m : ℕ). m ≤ t.rest) width_is h) q)
         read h (good u) q = goes (took u h q)
 
         go : (c : Bool) → ltb t.rest t.width ≡ c
-            → After (cond c (good (record { x = t.x * 2; width = t.width / 2; rest = t.rest; sum = t.sum })) (taken t (after_of t.sum (entry_at b t.x))))
+            → After (cond c (good (record { x = t.x * 2; width = t.width / 2; rest = t.rest; sum = t.sum })) (after_of t.sum (entry_at b t.x) >>= took_on))
         go true e = goes (skipped (ltb-true t.rest t.width e))
         go false e = read (ltb-false t.rest t.width e) (after_of t.sum (entry_at b t.x)) refl
 

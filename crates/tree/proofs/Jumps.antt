@@ -10,8 +10,8 @@ use borrow.Author.Tests.{lt-leb, le-ltb}
 use lib.ListN.{length}
 use lib.Pow.{pow_pos, pow_mono, pow-add}
 use Rattle.rules.specs.Limits.{max_levels, max_bonus}
-use Rattle.rules.specs.Refusals.{good, ◌>>◌, refuse◌when◌, BOARD}
-use Rattle.entries.specs.Entry.{none, joined, in_limits, SumOf, entry_words, place_words}
+use Rattle.rules.specs.Refusals.{good, ◌>>=◌, ◌>>◌, refuse◌when◌, BOARD}
+use Rattle.entries.specs.Entry.{none, joined, in_limits, checked, SumOf, entry_words, place_words}
 use Rattle.entries.specs.Words.{entry_at}
 use Rattle.entries.specs.declared.entry.Entry.{Entry}
 use Rattle.entries.proofs.Limits.{word_le, first_most, sum_of-none, sum_of_more, sum_of-joined}
@@ -43,17 +43,17 @@ none_left (suc n) b x a = rw (lt-leb _ _ (pow_pos n)) (none_left n b (x * 2) a)
 -- ---- an entry taken
 
 after_good : (a w : Entry) → in_limits w ≡ true → in_limits (joined a w) ≡ true → after_of a w ≡ good (joined a w)
-unfolding after_of limited ◌>>◌ refuse◌when◌
+unfolding after_of checked limited ◌>>=◌ ◌>>◌ refuse◌when◌
 after_good a w hw h =
     let low : (joined a w).legacy_bonus_score ≤ max_bonus = word_le (joined a w) h 5 (omega arith) in
     rw (hw, light_of (joined a w) h, le-ltb _ _ low)
 
 -- what the code was told of a sum
 sum_told : (a w u : Entry) → good u ≡ sum_of a w → (in_limits w ≡ true) × (u ≡ joined a w)
-unfolding sum_of ◌>>◌ refuse◌when◌
+unfolding sum_of checked ◌>>=◌ ◌>>◌ refuse◌when◌
 sum_told a w u h = go (in_limits w) refl h
   where
-    go : (x : Bool) → in_limits w ≡ x → good u ≡ ((refuse BOARD when not x) >> good (joined a w)) → (in_limits w ≡ true) × (u ≡ joined a w)
+    go : (x : Bool) → in_limits w ≡ x → good u ≡ (((refuse BOARD when not x) >> good w) >>= (λ r. good (joined a r))) → (in_limits w ≡ true) × (u ≡ joined a w)
     go false e h = never (cc)
     go true e h = (e, cc)
 

@@ -1,11 +1,12 @@
 -- The words of an entry but the legacy bonus: within the limits where all words are, and for a map with one object changed.
-use Prim.Native.Nat.{ℕ, zero, suc, ◌+◌, ◌≤◌, ◌<◌}
+use Prim.Native.Nat.{ℕ, ◌+◌, ◌≤◌, ◌<◌}
 use mathlib.Core.Path.{◌≡◌, refl, sym, subst}
 use mathlib.Core.Logic.{◌≢◌}
 use mathlib.Core.Bool.{true}
 use mathlib.Core.List.{List}
 use native.Mathlib.Omega.{arith}
 use lib.ListN.{length, get_or}
+use lib.Seq.{get_or-set_other}
 use Rattle.rules.specs.Limits.{max_bonus, max_objects}
 use Rattle.records.specs.Objects.{Object, bonus}
 use Rattle.encoding.specs.Limits.{Each, ObjectWithin}
@@ -17,13 +18,7 @@ use Rattle.tree.specs.Limited.{without_legacy}
 
 -- the words but the legacy bonus stay
 other_word : (e : Entry) (i : ℕ) → i ≢ 5 → get_or (words_of (without_legacy e)) i 0 ≡ get_or (words_of e) i 0
-other_word e zero n = refl
-other_word e (suc zero) n = refl
-other_word e (suc (suc zero)) n = refl
-other_word e (suc (suc (suc zero))) n = refl
-other_word e (suc (suc (suc (suc zero)))) n = refl
-other_word e (suc (suc (suc (suc (suc zero))))) n = absurd (n refl)
-other_word e (suc (suc (suc (suc (suc (suc i)))))) n = refl
+other_word e i n = get_or-set_other (words_of e) 5 i 0 0 n
 
 light_words : (e : Entry) → ((i : ℕ) → i < entry_words → i ≢ 5 → get_or (words_of e) i 0 ≤ get_or limit_list i 0) → in_limits (without_legacy e) ≡ true
 light_words e h =

@@ -2,8 +2,8 @@
 -- (13), then the combined legacy bonus ("a legacy sum above it is 7").
 use Rattle.std.specs.Prelude.{not, ltb}
 use Rattle.rules.specs.Limits.{max_bonus}
-use Rattle.rules.specs.Refusals.{Checked, good, ◌>>◌, refuse◌when◌, BONUS, BOARD}
-use Rattle.entries.specs.Entry.{joined, in_limits}
+use Rattle.rules.specs.Refusals.{Checked, good, ◌>>=◌, ◌>>◌, refuse◌when◌, BONUS, BOARD}
+use Rattle.entries.specs.Entry.{joined, in_limits, checked}
 use Rattle.entries.specs.declared.entry.Entry.{Entry}
 
 abbrev pub without_legacy : Entry → Entry
@@ -32,11 +32,11 @@ limited e = do
 -- the objects of a, then those of an entry as read
 unfoldable pub after_of : Entry → Entry → Checked Entry
 after_of a read = do
-  refuse BOARD when not (in_limits read)
-  limited (joined a read)
+  u ← checked read
+  limited (joined a u)
 
 -- the same with the combination unchecked
 unfoldable pub sum_of : Entry → Entry → Checked Entry
 sum_of a read = do
-  refuse BOARD when not (in_limits read)
-  good (joined a read)
+  u ← checked read
+  good (joined a u)

@@ -1,8 +1,8 @@
 -- Document 01, "The board": "An edit reads the other half of each covering entry, from the bottom up".
-use Rattle.std.specs.Prelude.{ℕ, zero, suc, ◌+◌, ◌-◌, ◌/◌, ◌%◌, ◌^◌, ◌≤◌, ◌≡◌, true, cond, not, List, eqb}
+use Rattle.std.specs.Prelude.{ℕ, zero, suc, ◌+◌, ◌-◌, ◌/◌, ◌%◌, ◌^◌, ◌≤◌, ◌≡◌, true, cond, List, eqb}
 use Rattle.rules.specs.Limits.{max_levels}
-use Rattle.rules.specs.Refusals.{Checked, good, refused, ◌>>=◌, ◌>>◌, refuse◌when◌, BOARD}
-use Rattle.entries.specs.Entry.{joined, in_limits}
+use Rattle.rules.specs.Refusals.{Checked, good, ◌>>=◌}
+use Rattle.entries.specs.Entry.{joined, in_limits, checked}
 use Rattle.entries.specs.Words.{entry_at, put_entry}
 use Rattle.entries.specs.declared.entry.Entry.{Entry}
 use Rattle.tree.specs.Limited.{limited}
@@ -11,11 +11,15 @@ use Rattle.tree.specs.Limited.{limited}
 abbrev pub beside_of : ℕ → ℕ
 beside_of e = cond (eqb (e % 2) 0) (e + 1) (e - 1)
 
--- the entry above e, from v at e and what was read beside it
+-- the entry above e, from v at e and what was read beside it, unchecked
+abbrev pub joined_at : ℕ → Entry → Entry → Entry
+joined_at e v read = cond (eqb (e % 2) 0) (joined v read) (joined read v)
+
+-- the same, checked
 unfoldable pub above_of : ℕ → Entry → Entry → Checked Entry
 above_of e v read = do
-  refuse BOARD when not (in_limits read)
-  limited (cond (eqb (e % 2) 0) (joined v read) (joined read v))
+  u ← checked read
+  limited (joined_at e v u)
 
 -- v at entry e and what follows from it at the n entries above
 unfoldable pub climbed : ℕ → List ℕ → ℕ → Entry → Checked (List ℕ)
@@ -25,19 +29,7 @@ climbed (suc n) b e v = do
   written ← climbed n b (e / 2) u
   good (put_entry written e v)
 
-abbrev pub put_of : Checked (List ℕ) → Checked (Unit {0})
-put_of (refused n) = refused n
-put_of (good b) = good tt
-
-abbrev pub or_else : Checked (List ℕ) → List ℕ → List ℕ
-or_else (refused n) b = b
-or_else (good written) b = written
-
 -- ---- the same in two passes, where nothing is refused: what the quick climb does
--- the entry above e, unchecked
-abbrev pub joined_at : ℕ → Entry → Entry → Entry
-joined_at e v read = cond (eqb (e % 2) 0) (joined v read) (joined read v)
-
 -- the entry n levels above e
 unfoldable pub top_of : ℕ → List ℕ → ℕ → Entry → Entry
 top_of zero b e v = v

@@ -8,14 +8,11 @@ use entries::entry::Entry;
 use entries::words::store;
 
 // n zero entries from e on.
-#[tactic(auto, using(crate::proofs::Builds::clearing))]
 fn clear(b: &mut [u64], e: usize, n: usize)
     requires { (e + n) * entry_words ≤ length b.old }
     ensures { b.new ≡ cleared e n b.old }
 {
-    for i in 0..n {
-        store(b, e + i, Entry::new());
-    }
+    b[e * Entry::WORDS..(e + n) * Entry::WORDS].fill(0);
 }
 
 // The entries n, n - 1, .., 1, each from its two halves, which then stand already.
@@ -34,7 +31,7 @@ pub fn fill(b: &mut [u64], cap: usize, count: usize)
     requires { (1 ≤ cap) × (count ≤ cap) × (cap * place_words ≤ length b.old) × Raises (cap - 1) (emptied cap count b.old) }
     ensures { b.new ≡ filled cap count b.old }
 {
-    store(b, 0, Entry::new());
+    clear(b, 0, 1);
     clear(b, cap + count, cap - count);
     raise(b, cap - 1);
 }

@@ -19,7 +19,7 @@ fn without_legacy(e: Entry) -> Entry
 }
 
 // The combined words but the legacy bonus, then that.
-#[tactic(auto, using(rules::proofs::Steps::steps), unfolding(crate::specs::Limited::limited))]
+#[tactic(auto, using(rules::proofs::Steps::steps, crate::proofs::Light::legacy_in), unfolding(crate::specs::Limited::limited))]
 pub fn limit(e: Entry) -> Result<CheckedEntry, Rule>
     ensures { result ≡ limited e }
 {
@@ -33,7 +33,7 @@ pub fn limit(e: Entry) -> Result<CheckedEntry, Rule>
 }
 
 // The objects of a, then those of an entry as read.
-#[tactic(auto, using(crate::proofs::Checks::checks))]
+#[tactic(auto, using(rules::proofs::Steps::steps), unfolding(crate::specs::Limited::after_of))]
 pub fn after(a: CheckedEntry, read: Entry) -> Result<CheckedEntry, Rule>
     ensures { result ≡ after_of a read }
 {

@@ -24,6 +24,7 @@ pub struct Prefix {
 }
 
 // Takes the entry if all that it covers is left to cover, and goes one level down.
+#[tactic(auto, using(rules::proofs::Steps::steps))]
 fn turn(b: &[u64], t: Prefix) -> Result<Prefix, Rule>
     requires { (t.x ≤ (2 * max_objects)) × (t.width ≤ t.rest → t.x * entry_words + entry_words ≤ length b.now) }
     ensures { result ≡ turned_of b.now t }
@@ -65,7 +66,7 @@ pub fn sum_of_first(b: &[u64], size: Size, p: usize) -> Result<CheckedEntry, Rul
 }
 
 // The sum and an entry as read, whose own words are checked.
-#[tactic(auto, using(crate::proofs::Checks::checks))]
+#[tactic(auto, using(rules::proofs::Steps::steps), unfolding(crate::specs::Limited::sum_of))]
 fn add(b: &[u64], x: usize, sum: Entry) -> Result<Entry, Rule>
     requires { (x * entry_words + entry_words ≤ length b.now) × SumOf (max_levels + 1) sum }
     ensures { result ≡ sum_of sum (entry_at b.now x) }

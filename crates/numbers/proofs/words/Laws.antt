@@ -1,9 +1,7 @@
 -- A little-endian number read from a list: by parts, in a longer list, and as the bytes that were written. Assumes nothing.
-use Rattle.std.proofs.Common.{◌≡◌, ℕ, zero, suc, ◌+◌, ◌-◌, ◌*◌, ◌/◌, ◌%◌, ◌^◌, ◌<◌, ◌≤◌, T, List, [], ◌∷◌, ◌++◌, length, get_or, take, drop, sym, refl, ap, ◌∙◌, subst, add-zero, zero-lt-suc, suc-add, pow-suc, zero-add, add-one, arith, get_or-drop, drop-cons, get_or-append-add}
+use Rattle.std.proofs.Common.{◌≡◌, ℕ, zero, suc, ◌+◌, ◌-◌, ◌*◌, ◌/◌, ◌%◌, ◌^◌, ◌<◌, ◌≤◌, List, [], ◌∷◌, ◌++◌, length, get_or, take, drop, sym, refl, ap, ◌∙◌, add-zero, zero-lt-suc, suc-add, pow-suc, zero-add, add-one, arith, get_or-drop, drop-cons, get_or-append-add}
 use lib.Arith.{digits_div, digits_mod}
 use lib.ListN.{get_or-eq_default, get_or-append}
-use lib.Ieee.{Float, Format, top, fits, of_bits, to_bits}
-use lib.Ieee.Bits.{of_bits-to_bits, to_bits-lt}
 use Rattle.numbers.specs.Words.{word_at, bytes_of}
 
 -- ---- the same bytes give the same number
@@ -87,12 +85,6 @@ word_at_bytes (suc n) v rest h =
 pub word_at_skip : (m v : ℕ) (rest : List ℕ) (k n : ℕ) → word_at (bytes_of m v ++ rest) (m + k) n ≡ word_at rest k n
 word_at_skip m v rest k n =
     ap (λ (j : ℕ). word_at (bytes_of m v ++ rest) (j + k) n) (sym (bytes_of-length m v)) ∙ word_at-append (bytes_of m v) rest k n
-
--- a float's bits in n bytes come back as the float, for 2 ^ (8 * n) patterns
-pub float_field : (f : Format) (n : ℕ) → 2 * top f ≡ 256 ^ n → (x : Float) (rest : List ℕ) → T (fits f x)
-    → of_bits f (word_at (bytes_of n (to_bits f x) ++ rest) 0 n) ≡ x
-float_field f n width x rest h =
-    ap (of_bits f) (word_at_bytes n (to_bits f x) rest (subst (λ (p : ℕ). to_bits f x < p) width (to_bits-lt f x h))) ∙ of_bits-to_bits f x h
 
 -- ---- bytes that are read and written again
 

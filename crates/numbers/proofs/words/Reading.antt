@@ -1,25 +1,24 @@
 -- One step of the loop of `whole_word`, and the number of a part of the bytes. Assumes nothing.
-use Rattle.std.proofs.Common.{◌≡◌, ℕ, suc, ◌+◌, ◌-◌, ◌*◌, ◌^◌, ◌<◌, ◌≤◌, List, length, get_or, take, drop, sym, ap, ◌∙◌, subst, lt_of_lt_of_le, arith, zero-add, get_or-drop, w8, Fits}
+use Rattle.std.proofs.Common.{◌≡◌, ℕ, ◌+◌, ◌-◌, ◌*◌, ◌^◌, ◌<◌, ◌≤◌, List, [], ◌∷◌, ◌++◌, length, get_or, get_or-append-add, take, drop, sym, ap, ◌∙◌, subst, lt_of_lt_of_le, arith, zero-add, get_or-drop, w8, Fits}
 use native.Mathlib.Nat.{pow-le-pow_right}
-use Rattle.std.proofs.lemmas.List.{get_or-take, take-take, length-take-le, length-drop}
+use Rattle.std.proofs.lemmas.List.{length-append, get_or-take, take-take, length-take-le, length-drop}
 use Rattle.numbers.specs.Words.{word_at}
-use Rattle.numbers.proofs.words.Laws.{word_at_same, word_at_lt}
-
--- one byte below the ones that were read
-pub one_below : (s : List ℕ) (i n : ℕ) → 0 < i → i ≤ n → word_at s i (n - i) * 256 + get_or s (i - 1) 0 ≡ word_at s (i - 1) (n - (i - 1))
-unfolding word_at
-one_below s i n h k =
-    let longer : n - (i - 1) ≡ suc (n - i) = omega arith in
-    let next : i - 1 + 1 ≡ i = omega arith in
-    rw (longer, next) (omega arith)
+use Rattle.numbers.proofs.words.Laws.{word_at_same, word_at_lt, word_at-append}
 
 bytes_mono : (i j : ℕ) → i ≤ j → 256 ^ i ≤ 256 ^ j
 bytes_mono i j h = pow-le-pow_right (omega arith) h
 
+-- one byte below the ones that were read
+pub one_below : (b : ℕ) (read : List ℕ) → word_at read 0 (length read) * 256 + b ≡ word_at (b ∷ read) 0 (length (b ∷ read))
+unfolding word_at
+one_below b read = omega (arith, word_at-append (b ∷ []) read 0 (length read))
+
 -- eight bytes fill a word
-pub fits_word : (s : List ℕ) (i n : ℕ) → n ≤ 8 → ((i : ℕ) → Fits w8 (get_or s i 0)) → word_at s i (n - i) < 2 ^ 64
-fits_word s i n h b =
-    lt_of_lt_of_le (word_at_lt s i (n - i) (λ k. omega (arith, b k))) (bytes_mono (n - i) 8 (omega arith))
+pub fits_word : (s left read : List ℕ) → s ≡ left ++ read → length s ≤ 8 → ((i : ℕ) → Fits w8 (get_or s i 0)) → word_at read 0 (length read) < 2 ^ 64
+fits_word s left read e n b =
+    let each : (i : ℕ) → get_or s (length left + i) 0 ≡ get_or read i 0 = λ i. ap (λ l. get_or l (length left + i) 0) e ∙ get_or-append-add left read i 0 in
+    lt_of_lt_of_le (word_at_lt read 0 (length read) (λ i. omega (arith, b (length left + i), each i)))
+    (bytes_mono (length read) 8 (omega (arith, n, ap length e, length-append left read)))
 
 part : (s : List ℕ) (at n : ℕ) → word_at (take n (drop at s)) 0 n ≡ word_at s at n
 part s at n =

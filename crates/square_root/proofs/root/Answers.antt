@@ -34,7 +34,10 @@ returns-then-negative-2 c =
 pub new-requires : goal.new-requires
 new-requires c =
     let f = finite_arm (goal.at.new-requires c).In-Finite in
-    (omega (arith, c.if-significand-eq0.false), f.small, f.range)
+    (omega (arith, c.if-significand-eq0.false), f.range)
+
+pub invariant_of-significand : goal.invariant_of-significand
+invariant_of-significand c = record { short = (finite_arm (goal.at.invariant_of-significand c).In-Finite).small }
 
 pub returns-in-NotANumber : goal.returns-in-NotANumber
 returns-in-NotANumber c = of_nan c.args.v (sym c.split.ensures ∙ c.in-NotANumber.is)
@@ -55,5 +58,5 @@ returns-else-negative-2 c =
     let v = c.args.v in
     let a = c.in-Finite.significand * 2 ^ c.in-Finite.exponent in
     c.root.ensures
-    ∙ ap rooted (same_number c.in-Finite.significand c.in-Finite.exponent c.new.result.significand c.new.result.exponent c.new.ensures)
+    ∙ ap rooted (same_number c.in-Finite.significand c.in-Finite.exponent c.new.result.significand.digits c.new.result.exponent c.new.ensures)
     ∙ of_positive v a (subst (λ (s : Bool). HasValue v s a (2 ^ 1074)) c.if-negative-2.false (finite_arm (goal.at.returns-else-negative-2 c).In-Finite).value) (sized (goal.at.returns-else-negative-2 c).Else-significand-eq0)

@@ -1,21 +1,25 @@
 -- Each return is a step of the definition; the object's own entry is within the limits.
 use Rattle.std.proofs.Common.{rules}
 use mathlib.Core.Path.{◌≡◌, sym, ap, ◌∙◌, subst}
-use Prim.Native.Nat.{ℕ, ◌^◌, ◌≤◌}
-use native.Mathlib.Omega.{arith}
+use Prim.Native.Nat.{◌≤◌}
 use Rattle.rules.specs.Limits.{max_nested}
-use Rattle.rules.specs.Refusals.{good, at_0}
+use Rattle.rules.specs.Refusals.{good}
 use Rattle.records.specs.declared.hit_object.HitObject.{HitObject}
 use Rattle.rules.proofs.Laws.{so}
 use Rattle.simulator.specs.Limits.{nested_count}
 use Rattle.simulator.proofs.Few.{kind_few}
 use Rattle.entries.specs.Entry.{in_limits}
-use Rattle.tree.proofs.Levels.{levels_hold}
 use Rattle.board.specs.Edit.{edit_of}
 use Rattle.board.proofs.Steps.{steps}
-use Rattle.board.proofs.Rooms.{told_is}
+use Rattle.board.proofs.Rooms.{told_refused, told_is}
 use Rattle.board.proofs.Edits as edits
 use Rattle.board.proofs.edit.edit.Goals as goal
+
+pub returns-in_err-size : goal.returns-in_err-size
+unfolding edit_of
+returns-in_err-size c =
+    let room = told_refused c.args.board.now c.args.starts.now c.args.count _ (so c.in_err-size.was c.room_for.ensures) in
+    search (rules, steps)
 
 pub returns-in_err-object : goal.returns-in_err-object
 unfolding edit_of
@@ -34,25 +38,22 @@ invariant_of-entry c =
     let found = edits.is_alone c.args.bytes.now _ (so c.in_ok-object.was c.read_alone.ensures) in
     ap in_limits c.own.ensures ∙ edits.own_within c.args.bytes.now _ found
 
-pub put_at-requires : goal.put_at-requires
-put_at-requires c =
-    let room = told_is c.args.board.now c.args.starts.now c.args.count _ (so c.in_ok-size.was c.room_for.ensures) in
-    let cap = ap (λ (l : ℕ). 2 ^ l) room.1.levels in
-    let places = levels_hold c.args.count room.1.few in
-    let words = room.1.words in
-    let numbers = room.1.numbers in
-    (omega (arith, cap, places, c.if-count-place.false), omega (arith, cap, words), omega (arith, numbers, c.if-count-place.false))
+pub invariant_of-lent : goal.invariant_of-lent
+invariant_of-lent c = record {
+  holds = (told_is c.args.board.now c.args.starts.now c.args.count _ (so c.in_ok-size.was c.room_for.ensures)).1;
+}
 
 pub returns-in_err-put_at : goal.returns-in_err-put_at
 returns-in_err-put_at c =
     let room = told_is c.args.board.now c.args.starts.now c.args.count _ (so c.in_ok-size.was c.room_for.ensures) in
     let found = edits.is_alone c.args.bytes.now _ (so c.in_ok-object.was c.read_alone.ensures) in
-    let up : c.from_residual-in_err-put_at.result ≡ at_0 c.put_at.result = search rules in
-    rw up (edits.left c.args.board.now c.args.starts.now c.args.count c.args.place c.args.bytes.now room.0 c.if-count-place.false _ room.1 _ found _ c.own.ensures _ _ _ c.put_at.ensures)
+    let left = edits.left c.args.board.now c.args.starts.now c.args.count c.args.place c.args.bytes.now room.0 c.if-count-place.false _ room.1 _ found _ c.own.ensures _ _ _ c.put_at.ensures.value in
+    search rules
 
 pub returns : goal.returns
 returns c =
     let room = told_is c.args.board.now c.args.starts.now c.args.count _ (so c.in_ok-size.was c.room_for.ensures) in
     let found = edits.is_alone c.args.bytes.now _ (so c.in_ok-object.was c.read_alone.ensures) in
     let done : c.put_at.result ≡ good tt = search rules in
-    rw done at (edits.left c.args.board.now c.args.starts.now c.args.count c.args.place c.args.bytes.now room.0 c.if-count-place.false _ room.1 _ found _ c.own.ensures _ _ _ c.put_at.ensures)
+    let left = rw done at (edits.left c.args.board.now c.args.starts.now c.args.count c.args.place c.args.bytes.now room.0 c.if-count-place.false _ room.1 _ found _ c.own.ensures _ _ _ c.put_at.ensures.value) in
+    search rules

@@ -1,16 +1,14 @@
--- Each return is what the definition computes from the tests on the way.
+-- A mark or a record that is refused refuses the object.
 use Rattle.std.proofs.Common.{rules}
+use Rattle.rules.specs.Refusals.{◌>>=◌, ◌>>◌, refuse◌when◌}
 use Rattle.board.specs.Edit.{object_in}
-use Rattle.board.proofs.Steps.{steps}
-use Rattle.board.proofs.Alones.{refused_record, no_object}
+use Rattle.board.proofs.Alones.{by_mark}
 use Rattle.board.proofs.edit.read_alone.Goals as goal
 
-pub returns-in_err-record : goal.returns-in_err-record
-returns-in_err-record c = search (rules, refused_record c.args.r.now c.if-r-lt2.false)
+pub returns-in_err-read : goal.returns-in_err-read
+unfolding ◌>>=◌ ◌>>◌ refuse◌when◌
+returns-in_err-read c = search (rules, by_mark)
 
-pub returns-in_default : goal.returns-in_default
-returns-in_default c = search (rules, no_object c.args.r.now c.if-r-lt2.false c.in_ok-record.record c.in_ok-record.size)
-
-pub returns : goal.returns
-unfolding object_in
-returns c = search (rules, steps)
+pub returns-in_err-object : goal.returns-in_err-object
+unfolding object_in ◌>>=◌ ◌>>◌ refuse◌when◌
+returns-in_err-object c = search (rules, by_mark)

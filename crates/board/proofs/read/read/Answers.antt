@@ -1,4 +1,4 @@
--- Each return is a step of the definition, and nothing is written.
+-- Settings that pass are in their range, there is room for the board, and a call that is refused refuses the read.
 use Rattle.std.proofs.Common.{rules}
 use Rattle.rules.proofs.Laws.{so}
 use Rattle.board.specs.Read.{read_of}
@@ -7,26 +7,10 @@ use Rattle.board.proofs.Rooms.{told_refused, told_is}
 use Rattle.board.proofs.Readings.{settings_pass}
 use Rattle.board.proofs.read.read.Goals as goal
 
-pub returns-then-breaks-gt-MAX_BREAK_TIMES-clause-value : goal.returns-then-breaks-gt-MAX_BREAK_TIMES-clause-value
-unfolding read_of
-returns-then-breaks-gt-MAX_BREAK_TIMES-clause-value c = search (rules, steps)
-
 pub returns-in_err-size-clause-value : goal.returns-in_err-size-clause-value
 unfolding read_of
 returns-in_err-size-clause-value c =
     let room = told_refused c.args.board.now c.args.starts.now c.args.count _ (so c.in_err-size.was c.room_for.ensures) in
-    search (rules, steps)
-
-pub returns-then-has_bad_arguments-clause-value : goal.returns-then-has_bad_arguments-clause-value
-unfolding read_of
-returns-then-has_bad_arguments-clause-value c =
-    let room = told_is c.args.board.now c.args.starts.now c.args.count _ (so c.in_ok-size.was c.room_for.ensures) in
-    search (rules, steps)
-
-pub returns-then-has_bad_mods-clause-value : goal.returns-then-has_bad_mods-clause-value
-unfolding read_of
-returns-then-has_bad_mods-clause-value c =
-    let room = told_is c.args.board.now c.args.starts.now c.args.count _ (so c.in_ok-size.was c.room_for.ensures) in
     search (rules, steps)
 
 pub invariant_of-map : goal.invariant_of-map
@@ -35,8 +19,10 @@ invariant_of-map c = record {
   few = c.if-breaks-gt-MAX_BREAK_TIMES.false;
 }
 
-pub read_in-requires : goal.read_in-requires
-read_in-requires c = (told_is c.args.board.now c.args.starts.now c.args.count _ (so c.in_ok-size.was c.room_for.ensures)).1
+pub invariant_of-lent : goal.invariant_of-lent
+invariant_of-lent c = record {
+  holds = (told_is c.args.board.now c.args.starts.now c.args.count _ (so c.in_ok-size.was c.room_for.ensures)).1;
+}
 
 pub returns-in_err-read_in-clause-value : goal.returns-in_err-read_in-clause-value
 unfolding read_of

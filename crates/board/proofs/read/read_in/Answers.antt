@@ -6,4 +6,4 @@ use Rattle.board.proofs.read.read_in.Goals as goal
 
 pub attributes_from-requires : goal.attributes_from-requires
 attributes_from-requires c =
-    found_in c.args.board.now c.args.starts.now c.args.count _ _ (sym (so c.in_ok-found.was c.find.ensures))
+    found_in c.args.board.now.words.now c.args.board.now.starts.now c.args.board.now.count _ _ (sym (so c.in_ok-found.was c.find.ensures))

@@ -6,8 +6,8 @@ use Rattle.numbers.proofs.rounding.magnitude.Goals as goal
 
 pub returns-then-exponent-ge1074 : goal.returns-then-exponent-ge1074
 returns-then-exponent-ge1074 c =
-    let g : 2 ^ 52 ≤ c.args.significand = c.requires.1 (omega arith) in
-    omega (arith, closest_large c.args.significand c.args.exponent 1074 (2 ^ 31) c.if-exponent-ge1074.true (omega arith))
+    let g : 2 ^ 52 ≤ c.args.significand.digits = c.requires (omega arith) in
+    omega (arith, closest_large c.args.significand.digits c.args.exponent 1074 (2 ^ 31) c.if-exponent-ge1074.true (omega arith))
 
 pub returns : goal.returns
-returns c = omega (arith, closest_shift c.args.significand c.args.exponent 1074 (omega arith))
+returns c = omega (arith, closest_shift c.args.significand.digits c.args.exponent 1074 (omega arith))

@@ -19,8 +19,10 @@ finite_arm c =
     (sym c.split.ensures ∙ c.in-Finite.is)
 
 pub magnitude-requires : goal.magnitude-requires
-magnitude-requires c =
-    ((finite_arm (goal.at.magnitude-requires c).In-Finite).small, (finite_arm (goal.at.magnitude-requires c).In-Finite).normal)
+magnitude-requires c = (finite_arm (goal.at.magnitude-requires c).In-Finite).normal
+
+pub invariant_of-significand : goal.invariant_of-significand
+invariant_of-significand c = record { short = (finite_arm (goal.at.invariant_of-significand c).In-Finite).small }
 
 pub returns-in-NotANumber : goal.returns-in-NotANumber
 returns-in-NotANumber c = even_nan c.args.x (sym c.split.ensures ∙ c.in-NotANumber.is)

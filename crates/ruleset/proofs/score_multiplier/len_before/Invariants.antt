@@ -11,5 +11,5 @@ invariant-loop-period g l =
     (goal.iterator-loop-period g).can_next l.period-iterator
     × (goal.iterator-loop-period g).is_finite l.period-iterator
     × (length l.yielded + (goal.iterator-loop-period g).remaining l.period-iterator ≤ max_breaks)
-    × ((more : List BreakPeriod) → l.total +ℤ breaks_length l.last_start more ≡ breaks_length l.last_start (l.yielded ++ more))
-    × (mag l.total ≤ length l.yielded * 2 ^ 34)
+    × ((more : List BreakPeriod) → l.milliseconds +ℤ breaks_length l.last_start more ≡ breaks_length l.last_start (l.yielded ++ more))
+    × (mag l.milliseconds ≤ length l.yielded * 2 ^ 34)

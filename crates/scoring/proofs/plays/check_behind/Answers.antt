@@ -1,9 +1,8 @@
-use mathlib.Core.Path.{◌≡◌, sym, ap, ◌∙◌}
+use mathlib.Core.Path.{◌≡◌, ◌∙◌}
 use native.Mathlib.Omega.{arith}
 use Rattle.rules.proofs.Laws.{so}
 use Rattle.rules.specs.Refusals.{good, refused, refusal_at}
-use Rattle.scoring.specs.View.{checked_of}
-use Rattle.scoring.proofs.Playing.{on_start, on_refused, on_more, playing_cut, playing_end}
+use Rattle.scoring.proofs.Playing.{stopped, on_start, on_refused, on_more, playing_cut, playing_end}
 use Rattle.scoring.proofs.plays.check_behind.Goals as goal
 
 pub loop-at-init : goal.loop-at-init
@@ -15,7 +14,7 @@ returns-in_err-play c =
     let n = c.in_err-play.field-0.0.rule in
     let told : c.play_at.result ≡ refused n = grind arith in
     let up : c.from_residual.result ≡ refused (refusal_at n c.loop-at.at-counter) = grind arith in
-    up ∙ sym (ap (checked_of _) (playing_cut k.is c.loop-at-test.true n (so told c.play_at.ensures)))
+    up ∙ stopped _ (playing_cut k.is c.loop-at-test.true n (so told c.play_at.ensures))
 
 pub check_any-requires : goal.check_any-requires
 check_any-requires c = let k = c.loop-at.invariant c.requires in record { i = _; is = k.is }
@@ -30,7 +29,7 @@ returns-in_err-score c =
     let play : c.play_at.result ≡ good c.in_ok-play.play = grind arith in
     let told : c.score_behind.result ≡ refused n = grind arith in
     let up : c.from_residual-in_err-score.result ≡ refused (refusal_at n c.loop-at.at-counter) = grind arith in
-    up ∙ sym (ap (checked_of _) (on_refused k c.loop-at-test.true _ (so play c.play_at.ensures) n (so told (c.score_behind.ensures c.requires))))
+    up ∙ stopped _ (on_refused k c.loop-at-test.true _ (so play c.play_at.ensures) n (so told (c.score_behind.ensures c.requires)))
 
 pub loop-at-preserved : goal.loop-at-preserved
 loop-at-preserved c =

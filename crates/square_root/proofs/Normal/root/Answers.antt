@@ -11,24 +11,24 @@ use Rattle.square_root.proofs.Normal.root.Goals as goal
 pub invariant_of-radicand : goal.invariant_of-radicand
 invariant_of-radicand c =
     record {
-      long = doubled_ge c.args.self.significand c.args.self.exponent c.args.self.long c.args.self.short;
-      short = doubled_lt c.args.self.significand c.args.self.exponent c.args.self.short;
+      long = doubled_ge c.args.self.significand.digits c.args.self.exponent c.args.self.long c.args.self.significand.short;
+      short = doubled_lt c.args.self.significand.digits c.args.self.exponent c.args.self.significand.short;
     }
 
 pub overflow_add-digits : goal.overflow_add-digits
 overflow_add-digits c =
-    let s = c.args.self.significand * 2 ^ (c.args.self.exponent % 2) % 2 ^ 64 in
+    let s = c.args.self.significand.digits * 2 ^ (c.args.self.exponent % 2) % 2 ^ 64 in
     let is : c.root.result ≡ isqrt (s * 2 ^ 54) = c.root.ensures ∙ ap isqrt c.whole_root.ensures in
-    omega (arith, root_lt (isqrt (s * 2 ^ 54)) s (doubled_lt c.args.self.significand c.args.self.exponent c.args.self.short) (isqrt_root (s * 2 ^ 54)))
+    omega (arith, root_lt (isqrt (s * 2 ^ 54)) s (doubled_lt c.args.self.significand.digits c.args.self.exponent c.args.self.significand.short) (isqrt_root (s * 2 ^ 54)))
 
 pub returns : goal.returns
 returns c =
     let x = c.args.self.exponent in
-    let s = c.args.self.significand * 2 ^ (x % 2) % 2 ^ 64 in
-    let lo = doubled_ge c.args.self.significand x c.args.self.long c.args.self.short in
-    let hi = doubled_lt c.args.self.significand x c.args.self.short in
+    let s = c.args.self.significand.digits * 2 ^ (x % 2) % 2 ^ 64 in
+    let lo = doubled_ge c.args.self.significand.digits x c.args.self.long c.args.self.significand.short in
+    let hi = doubled_lt c.args.self.significand.digits x c.args.self.significand.short in
     c.f64_from_bits_with_nan.ensures
     ∙ ap (λ (b : ℕ). of_bits binary64 (b + (c.root.result + 1) / 2)) (shl_exact 11 52 64 (omega arith) (omega arith))
     ∙ ap (λ (q : ℕ). of_bits binary64 ((x / 2 + 479) * 2 ^ 52 + (q + 1) / 2)) (c.root.ensures ∙ ap isqrt c.whole_root.ensures)
     ∙ bits_right s (x / 2) (isqrt (s * 2 ^ 54)) lo hi (omega arith) (isqrt_root (s * 2 ^ 54))
-    ∙ ap rooted (parted c.args.self.significand x c.args.self.short)
+    ∙ ap rooted (parted c.args.self.significand.digits x c.args.self.significand.short)

@@ -1,19 +1,10 @@
--- What was read is an object of this kind, within the input.
-use mathlib.Core.Path.{sym, ◌∙◌}
+-- What was read stands within the input.
 use native.Mathlib.Omega.{arith}
-use borrow.Author.Rules.{rules}
-use Rattle.map_reader.proofs.Stepping.{slider_read}
+use Rattle.map_reader.proofs.Stepping.{slider_inside, slider_few}
 use Rattle.map_reader.proofs.objects.Objects.with_slider.Goals as goal
 
-pub returns-in_default-kind : goal.returns-in_default-kind
-returns-in_default-kind c = let k = slider_read c.args.r.now c.in-Ok-Object-default.field-0-0-is (sym c.in-Ok-Object-default.is ∙ c.read_slider.ensures) in absurd (search (rules, k.kind))
-
-pub overflow_add-result : goal.overflow_add-result
-overflow_add-result c = let k = slider_read c.args.r.now c.in-Ok-Object-default.field-0-0-is (sym c.in-Ok-Object-default.is ∙ c.read_slider.ensures) in omega (arith, k.inside)
-
-pub slider-requires : goal.slider-requires
-slider-requires c =
-    let k = slider_read c.args.r.now c.in-Ok-Object-default.field-0-0-is (sym c.in-Ok-Object-default.is ∙ c.read_slider.ensures) in (c.requires.0.0, (rw c.in-Slider.is at k.few))
-
-pub process_next-requires : goal.process_next-requires
-process_next-requires c = let k = slider_read c.args.r.now c.in-Ok-Object-default.field-0-0-is (sym c.in-Ok-Object-default.is ∙ c.read_slider.ensures) in (c.requires.0.1, k.few)
+pub behind-requires : goal.behind-requires
+behind-requires c =
+    let h = c.requires in
+    let inside = slider_inside c.args.r.now _ _ _ _ c.read_slider.ensures c.in-Ok.is in
+    (h.0.1, slider_few c.args.r.now _ _ _ _ c.read_slider.ensures c.in-Ok.is, omega (arith, h.1, inside))

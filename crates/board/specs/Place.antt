@@ -25,6 +25,12 @@ pub record Holds (size n : ℕ) (b : List ℕ) (ts : List Float) : Type 0 where
   pub words : place_words * cap_of n ≤ length b
   pub numbers : n ≤ length ts
 
+-- both slices with an entry at e and what follows from it on so many levels above, and a start at a place
+unfoldable pub put_above : ℕ → ℕ → Entry → ℕ → Float → List ℕ → List Float → Checked (List ℕ × List Float)
+put_above levels e v place start b ts = do
+  written ← climbed levels b e v
+  good (written, set ts place start)
+
 -- both slices of a board of so many levels, with an entry and what follows from it above, and a start
 unfoldable pub put_place : ℕ → ℕ → Entry → Float → List ℕ → List Float → Checked (List ℕ × List Float)
 put_place levels place v start b ts = do

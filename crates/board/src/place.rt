@@ -1,7 +1,7 @@
 // Room for a map's board and start table, and an entry and a start put at a place of them.
-ghost use Rattle.std.specs.Prelude.{◌≡◌, ◌*◌, ◌^◌, ◌≤◌, ◌<◌, length};
+ghost use Rattle.std.specs.Prelude.{◌≡◌, ◌+◌, ◌*◌, ◌^◌, ◌≤◌, ◌<◌, length};
 ghost use Rattle.entries.specs.Entry.{place_words};
-ghost use Rattle.board.specs.Place.{Holds, room_for, room_of, put_place, put_left};
+ghost use Rattle.board.specs.Place.{Holds, room_for, room_of, put_above, put_place, put_left};
 
 use entries::checked::CheckedEntry;
 use entries::entry::Entry;
@@ -39,7 +39,27 @@ pub fn room_for(board: &[u64], starts: &[f64], count: usize) -> Result<Size, Rul
     Ok(size)
 }
 
-// The same, to write in.
+// Puts an entry at a place, with what follows from it above, and a start. Nothing is written before the last check. Of any levels and `cap` places,
+// and of any place that the start table reaches: a `Board` would ask for those of its count.
+#[tactic(auto, using(crate::proofs::Steps::steps), unfolding(crate::specs::Place::put_above))]
+pub fn put_at(
+    board: &mut [u64],
+    starts: &mut [f64],
+    levels: usize,
+    cap: usize,
+    place: usize,
+    entry: CheckedEntry,
+    start: f64,
+) -> Result<(), Rule>
+    requires { (place < cap) × (place_words * cap ≤ length board.old) × (place < length starts.old) }
+    ensures { (result, board.new, starts.new) ≡ put_left (put_above levels (cap + place) entry place start board.old starts.old) board.old starts.old }
+{
+    quick_climb(board, levels, cap + place, entry)?;
+    starts[place] = start;
+    Ok(())
+}
+
+// A `Board` to write in.
 #[derive(Drop)]
 pub(crate) struct BoardMut<'w, 's> {
     pub words: &'w mut [u64],
@@ -50,8 +70,8 @@ pub(crate) struct BoardMut<'w, 's> {
 }
 
 impl BoardMut<'_, '_> {
-    // Puts an entry, with what follows from it above, and a start. Nothing is written before the last check.
-    #[tactic(auto, using(crate::proofs::Steps::steps), unfolding(crate::specs::Place::put_place))]
+    // At a place below the count.
+    #[tactic(auto, unfolding(crate::specs::Place::put_above, crate::specs::Place::put_place))]
     pub(crate) fn put_at(
         &mut self,
         place: usize,
@@ -65,8 +85,6 @@ impl BoardMut<'_, '_> {
     {
         let levels = self.size.levels();
         let cap = self.size.cap();
-        quick_climb(self.words, levels, cap + place, entry)?;
-        self.starts[place] = start;
-        Ok(())
+        put_at(self.words, self.starts, levels, cap, place, entry, start)
     }
 }

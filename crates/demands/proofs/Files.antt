@@ -15,8 +15,9 @@ use Rattle.encoding.proofs.Accepted.{accepted_within}
 use Rattle.encoding.proofs.FileBytes.{accepted_bytes}
 use Rattle.encoding.proofs.RoundTrip.{round_trip, bare}
 use Rattle.simulator.specs.Attributes.{score_attributes_at}
+use Rattle.estimates.specs.Effective.{estimates_of}
 use Rattle.play_score.specs.PlayRules.{exceeds}
-use Rattle.play_score.proofs.Exceeding.{score_of, exceeds_refused, exceeds_not}
+use Rattle.play_score.proofs.Exceeding.{exceeds_refused, exceeds_not}
 use Rattle.play_score.specs.declared.PlayScore.{PlayScore}
 use Rattle.scoring.specs.Scores.{Scores, play_score_on, play_scores, scores_of}
 use Rattle.scoring.proofs.Answers.{no_number}
@@ -27,7 +28,8 @@ Keeps m p = exceeds p (score_attributes_at m p.passed_objects) ≡ false
 
 -- its score: "Attributes are those of the passed objects"
 abbrev pub scored : Map → Play → PlayScore
-scored m p = score_of p (score_attributes_at m p.passed_objects)
+scored m p =
+    let a = score_attributes_at m p.passed_objects in record { attributes = a; estimates = estimates_of p a.difficulty }
 
 abbrev pub scored_plays : Map → List Play → List PlayScore
 scored_plays m ps = map (scored m) ps

@@ -19,6 +19,7 @@ some_placed (Some rank.Header) e = omega arith
 some_placed (Some rank.Break) e = omega arith
 some_placed (Some rank.Object) e = omega arith
 some_placed (Some rank.Play) e = omega arith
+some_placed (Some rank.Beyond) e = omega arith
 
 pub placed_some : (r : Option Rank) → 0 < place r → is_none r ≡ false
 placed_some None h = never (omega (arith, h))

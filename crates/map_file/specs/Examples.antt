@@ -10,7 +10,7 @@ use Rattle.rules.specs.Refusals.{refused, good, number_of, ◌>>=◌, ◌>>◌, 
 use Rattle.records.specs.Objects.{bonus}
 use Rattle.play_state.specs.Play.{flags_bad, hitresults_of}
 use Rattle.records.specs.Records.{FoundRecord, header_of, break_of, circle_of, nested_of, slider_of, spinner_of, play_of, object_of}
-use Rattle.map_file.specs.Order.{no_rank, header_rank, break_rank, object_rank, play_rank, body_of, record_of}
+use Rattle.map_file.specs.Order.{no_rank, header_rank, break_rank, object_rank, play_rank, beyond_rank, body_of, record_of}
 use Rattle.map_file.specs.File.{Result, accepted, refused_at, counts_of, with_record, file_from, file_of}
 use Rattle.map_file.specs.declared.file.Counts.{Counts}
 use Rattle.map_file.specs.declared.file.Rank.{Rank}
@@ -168,6 +168,10 @@ marks =
     ∷ (slider 0 1 (2 ∷ []), behind play_rank, 3)
     ∷ (spinner 0 0, behind play_rank, 3)
     ∷ (play 0 0 0 0 one, behind play_rank, 0)
+    ∷ (header 0 0 0, behind beyond_rank, 3)
+    ∷ (break 0 0, behind beyond_rank, 3)
+    ∷ (circle 0, behind beyond_rank, 3)
+    ∷ (play 0 0 0 0 one, behind beyond_rank, 3)
     -- unknown: zeros, and the mark of a break with its bytes swapped
     ∷ (replicate 18 0, behind no_rank, 3)
     ∷ (replicate 18 0, behind header_rank, 3)

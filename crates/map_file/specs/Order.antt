@@ -29,6 +29,10 @@ object_rank = Some rank.Object
 abbrev pub play_rank : Option Rank
 play_rank = Some rank.Play
 
+-- no record has it: behind it nothing is in order
+abbrev pub beyond_rank : Option Rank
+beyond_rank = Some rank.Beyond
+
 -- each by its number
 abbrev pub place : Option Rank → ℕ
 place None = 0
@@ -36,6 +40,7 @@ place (Some rank.Header) = 1
 place (Some rank.Break) = 2
 place (Some rank.Object) = 3
 place (Some rank.Play) = 4
+place (Some rank.Beyond) = 5
 
 -- the place of a mark
 abbrev pub rank_by : Mark → Rank
@@ -63,6 +68,7 @@ in_order last (Some rank.Header) = is_none last
 in_order last (Some rank.Break) = follows last break_rank
 in_order last (Some rank.Object) = follows last object_rank
 in_order last (Some rank.Play) = follows last play_rank
+in_order last (Some rank.Beyond) = follows last beyond_rank
 
 -- "6: a 129th break, an 8,193rd object"
 abbrev pub is_full : Counts → Option Rank → Bool
@@ -71,6 +77,7 @@ is_full c (Some rank.Header) = false
 is_full c (Some rank.Break) = leb max_breaks c.breaks
 is_full c (Some rank.Object) = leb max_objects c.objects
 is_full c (Some rank.Play) = false
+is_full c (Some rank.Beyond) = false
 
 -- "7: the legacy bonus of all objects is above 2,147,483,647"
 abbrev pub over_bonus : Counts → ℕ → Bool

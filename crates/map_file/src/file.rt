@@ -16,13 +16,14 @@ use records::play_record::read_play;
 use records::record::{Read, Record};
 use rules::refusal::Rule;
 
-// The places of the records in their order.
+// The places of the records in their order. Behind `Beyond`, which no record has, nothing is in order.
 #[derive(Clone, Copy, Debug, PartialEq, Eq, PartialOrd, Ord, Hash)]
 pub enum Rank {
     Header,
     Break,
     Object,
     Play,
+    Beyond,
 }
 
 // What the checks of the next record lean on: the last record's place in the order, the records so far and their legacy bonus.
@@ -72,7 +73,7 @@ fn is_full(c: Counts, rank: Rank) -> bool
     match rank {
         Rank::Break => BreakPeriod::MAX_COUNT <= c.breaks,
         Rank::Object => HitObject::MAX_COUNT <= c.objects,
-        Rank::Header | Rank::Play => false,
+        Rank::Header | Rank::Play | Rank::Beyond => false,
     }
 }
 

@@ -87,6 +87,7 @@ chain_rank s f c b h = go f.last refl b h
         rw (chain_no_objects s f c (omega (arith, z)), lt-ltb 0 (length f.map.breaks) (chain_breaks s f c e)) (sym e)
     go (Some rank.Object) e b h = rw (lt-ltb 0 (length f.map.objects) (chain_objects s f c e)) (sym e)
     go (Some rank.Play) e b h = absurd (omega (arith, h))
+    go (Some rank.Beyond) e b h = absurd (omega (arith, h))
 
 -- ---- what stands behind all objects
 data StopAt (s : List ℕ) (g : File) : Checked (Unit {0}) → Type 0 where

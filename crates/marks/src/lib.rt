@@ -62,6 +62,8 @@ pub fn mark_before(objects: u64, play: Play) -> usize
 }
 
 impl MapFile<'_> {
+    // A call, since in one piece with its caller the states stand a third time on the stack.
+    #[inline(never)]
     pub fn marks(&self) -> Marks
         ensures { MarksOf self.now.bytes.now self.now.map result }
     {

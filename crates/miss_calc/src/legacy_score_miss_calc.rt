@@ -193,7 +193,9 @@ impl OsuLegacyScoreMissCalculator {
     pub fn calculate(self, score: Option<u32>) -> Option<f64>
         ensures { result ≡ score_based_of self score }
     {
-        let score = score?;
+        let Some(score) = score else {
+            return None;
+        };
         if self.attrs.max_combo == 0 {
             return Some(0.0);
         }

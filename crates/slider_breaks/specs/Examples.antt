@@ -1,5 +1,5 @@
 -- The slider breaks of some plays, worked out by a second program in doubles; 14 at its edges, and which of two faults is told.
-use Rattle.rules.specs.Refusals.{good, refused, refusal_at, PLAY_EXCEEDS, FACTOR}
+use Rattle.rules.specs.Refusals.{good, refused, refusal_at, number_of, PLAY_EXCEEDS, FACTOR}
 use Rattle.std.specs.Prelude.{ℕ, true, false, ◌≡◌, refl, List, [], ◌∷◌, map, None}
 use Rattle.std.specs.Float.{binary64}
 use Rattle.std.specs.Float.Ieee.{of_bits, to_bits, of_int, round, add, sub, mul, div, neg, sum, lt, le, eq, is_nan}
@@ -103,10 +103,10 @@ unfolding factors_bad is_factor of_int of_bits lt le eq
 one_is_wrong = refl
 
 -- a refusal of the call without factors comes first, with its offset
-refused_first : (p : Play) → with_breaks p (both 0x4024_0000_0000_0001 0) (refused (refusal_at PLAY_EXCEEDS 32)) ≡ refused (refusal_at PLAY_EXCEEDS 32)
-refused_first p = refl
+refused_first : (p : Play) → (with_breaks p (both 0x4024_0000_0000_0001 0) (refused (refusal_at PLAY_EXCEEDS 32)) ≡ refused (refusal_at PLAY_EXCEEDS 32)) × (number_of PLAY_EXCEEDS ≡ 9)
+refused_first p = (refl, refl)
 
 -- 14 has offset 0, and takes the place of the values
-fourteen : (p : Play) (s : PlayScore) → with_breaks p (both 0 0x4024_0000_0000_0001) (good s) ≡ refused (refusal_at FACTOR 0)
+fourteen : (p : Play) (s : PlayScore) → (with_breaks p (both 0 0x4024_0000_0000_0001) (good s) ≡ refused (refusal_at FACTOR 0)) × (number_of FACTOR ≡ 14)
 unfolding factors_bad is_factor of_int of_bits lt le eq
-fourteen p s = refl
+fourteen p s = (refl, refl)

@@ -186,8 +186,8 @@ record Told : Type 0 where
         starts = whole 0 ∷ whole 5000 ∷ whole 9000 ∷ whole 9 ∷ [];
       }
   first_edit : answer (edit 3 2 spin) first ≡ edits (good tt)
-  second_edit : answer (edit 3 3 spin) (lent_after (edit 3 2 spin) first) ≡ edits (refused (refusal_at PLACE 0))
-  third_edit : answer (edit 3 0 (spin ++ (0 ∷ []))) (lent_after (edit 3 3 spin) (lent_after (edit 3 2 spin) first)) ≡ edits (refused (refusal_at MARK 0))
+  second_edit : (answer (edit 3 3 spin) (lent_after (edit 3 2 spin) first) ≡ edits (refused (refusal_at PLACE 0))) × (number_of PLACE ≡ 12)
+  third_edit : (answer (edit 3 0 (spin ++ (0 ∷ []))) (lent_after (edit 3 3 spin) (lent_after (edit 3 2 spin) first)) ≡ edits (refused (refusal_at MARK 0))) × (number_of MARK ≡ 3)
   first_read : values_of (answer (read 3 built-map.settings times play) edited) ≡ (2, 240, 8800) ∷ []
   -- the Rust's steps in another program's doubles gave these bits
   with_factors : breaks_in (answer (read_breaks 3 built-map.settings times broken factors) read_once) ≡ 8800 ∷ 0x3f92_3879_ed03_2d18 ∷ 0x3f9d_2729_7b38_4826 ∷ []
@@ -201,8 +201,8 @@ told =
     record {
       left = (left_at_last (7 ∷ []) (whole 9 ∷ []) list (map_in (file_of file)) first right).1;
       first_edit = right.0 refl;
-      second_edit = right.1.0 refl;
-      third_edit = right.1.1.0 refl;
+      second_edit = (right.1.0 refl, refl);
+      third_edit = (right.1.1.0 refl, refl);
       first_read = ap values_of (right.1.1.1.1.0 refl refl refl (sized 7 3 0 0 (lit< tt) (lit< tt) (lit< tt) (lit< tt))).as_scored;
       with_factors = ap breaks_in (right.1.1.1.1.1.0 refl refl refl (sized 6 0 1 2 (lit< tt) (lit< tt) (lit< tt) (lit< tt))).as_called;
       with_a_wrong_one = ap breaks_in (right.1.1.1.1.1.1.0 refl refl refl (sized 6 0 1 2 (lit< tt) (lit< tt) (lit< tt) (lit< tt))).as_called;
